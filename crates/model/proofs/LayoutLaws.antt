@@ -250,14 +250,28 @@ module _ (limits : Limits) where
   unfolding pendingF editF entryBytes via _⊗_ entry-rules nameKey padded absorbed-bytes
   entry-there resource p ok t =
       let c = leb-true _ _ (true-of (every-at _ 1 t)) in
-      let r = leb-true _ _ (true-of (every-at _ 2 t)) in
-      (nameKey-alike .there (p .edit .resource) (ok .0 .1 .0),
-      ((ok .0 .0, text-size .bytes (p .edit .id) (ok .0 .0)),
-      ((ok .0 .1 .1 .0, operation-within .bytes (p .edit .operation) (ok .0 .1 .1 .0)),
-      ((ok .0 .1 .1 .1 .0, role-within .bytes (p .edit .role) (ok .0 .1 .1 .1 .0)),
-      ((ok .0 .1 .1 .1 .1, time-within .bytes (p .edit .expires-at) (ok .0 .1 .1 .1 .1)),
-      ((ok .1 .0, c), ((ok .1 .1 .0, r),
-      (ok .1 .1 .1 .0, (ok .1 .1 .1 .1, list-within (limits .absorbed) text-size .bytes (p .absorbed) (ok .1 .1 .1 .1))))))))))
+      let r = leb-true _ _ (true-of (every-at _ 2 t)) in (
+        nameKey-alike .there (p .edit .resource) (ok .0 .1 .0),
+        (
+          (ok .0 .0, text-size .bytes (p .edit .id) (ok .0 .0)),
+          (
+            (ok .0 .1 .1 .0, operation-within .bytes (p .edit .operation) (ok .0 .1 .1 .0)),
+            (
+              (ok .0 .1 .1 .1 .0, role-within .bytes (p .edit .role) (ok .0 .1 .1 .1 .0)),
+              (
+                (ok .0 .1 .1 .1 .1, time-within .bytes (p .edit .expires-at) (ok .0 .1 .1 .1 .1)),
+                (
+                  (ok .1 .0, c),
+                  (
+                    (ok .1 .1 .0, r),
+                    (ok .1 .1 .1 .0, (ok .1 .1 .1 .1, list-within (limits .absorbed) text-size .bytes (p .absorbed) (ok .1 .1 .1 .1))),
+                  ),
+                ),
+              ),
+            ),
+          ),
+        ),
+      )
 
   entry-back : (p : Pending) → entryBytes limits .Ok p → pendingF limits .Ok p
   unfolding pendingF editF entryBytes via _⊗_ nameKey padded
@@ -352,9 +366,10 @@ module _ (limits : Limits) where
   rows-back [] w t a = tt
   rows-back (e ∷ m) w t a =
       let h : T (queue-rules e) = and-left (queue-rules e) (all queue-rules m) t in
-      let b : All (entryBytes limits .Ok) (e .1) = all-front (entryBytes limits .Ok) (e .1) (entries-of m) a in
-      ((key-ok (e .0) (e .1) (and-left (not (is-empty (e .1))) _ h) (and-right (not (is-empty (e .1))) _ h) b, (omega arith, all-alike entry-back (e .1) b)),
-      rows-back m (omega arith) (and-right (queue-rules e) (all queue-rules m) t) (all-rest (entryBytes limits .Ok) (e .1) (entries-of m) a))
+      let b : All (entryBytes limits .Ok) (e .1) = all-front (entryBytes limits .Ok) (e .1) (entries-of m) a in (
+        (key-ok (e .0) (e .1) (and-left (not (is-empty (e .1))) _ h) (and-right (not (is-empty (e .1))) _ h) b, (omega arith, all-alike entry-back (e .1) b)),
+        rows-back m (omega arith) (and-right (queue-rules e) (all queue-rules m) t) (all-rest (entryBytes limits .Ok) (e .1) (entries-of m) a),
+      )
 
   rows-of : (m : Map ResourceId Queue) → queuesBytes limits .Ok m → T (all queue-rules m) → waits m ≤ limits .waiting → Rows .Ok m
   unfolding queuesBytes table list padded
@@ -366,18 +381,37 @@ module _ (limits : Limits) where
   unfolding stateBytes such partsBytes stateF via _⊗_ rules
   state-there s w =
       let a = w .fits in
-      let q = queues-there (s .edits) (a .1 .1 .1 .0) (every-at (rules limits s) 7 (w .ruled)) (every-at (rules limits s) 2 (w .ruled)) (leb-true _ _ (true-of (every-at (rules limits s) 6 (w .ruled)))) in
-      ((table-alike (limits .records) (pair-alike nameKey-alike (padded-alike event-within)) (pair-exactly nameKey-exactly (padded-exactly event-bytes eventF)) .there (s .records) (a .0),
-      (padded-alike cursor-within .there (s .cursor) (a .1 .0),
-      (then-alike (option-alike passBytes-alike) (padded-alike (option-within (exactly-within (passBytes-exactly limits)))) .there (s .pass) (a .1 .1 .0),
-      (q,
-      (table-alike (limits .in-flight) (pair-alike numberKey-alike (padded-alike purpose-within)) (pair-exactly numberKey-exactly (padded-exactly purpose-bytes purposeF)) .there (s .in-flight) (a .1 .1 .1 .1 .0),
-      (a .1 .1 .1 .1 .1 .0,
-      (table-alike (limits .learned) (pair-alike nameKey-alike (alike-self u64)) (pair-exactly nameKey-exactly (number-exactly 8)) .there (s .learned) (a .1 .1 .1 .1 .1 .1 .0),
-      (a .1 .1 .1 .1 .1 .1 .1 .0,
-      (padded-alike time-within .there (s .now) (a .1 .1 .1 .1 .1 .1 .1 .1 .0),
-      table-alike (limits .aliases) (pair-alike nameKey-alike nameKey-alike) (pair-exactly nameKey-exactly nameKey-exactly) .there (s .aliases) (a .1 .1 .1 .1 .1 .1 .1 .1 .1)))))))))),
-      w .ruled)
+      let q = queues-there (s .edits) (a .1 .1 .1 .0) (every-at (rules limits s) 7 (w .ruled)) (every-at (rules limits s) 2 (w .ruled)) (leb-true _ _ (true-of (every-at (rules limits s) 6 (w .ruled)))) in (
+        (
+          table-alike (limits .records) (pair-alike nameKey-alike (padded-alike event-within)) (pair-exactly nameKey-exactly (padded-exactly event-bytes eventF)) .there (s .records) (a .0),
+          (
+            padded-alike cursor-within .there (s .cursor) (a .1 .0),
+            (
+              then-alike (option-alike passBytes-alike) (padded-alike (option-within (exactly-within (passBytes-exactly limits)))) .there (s .pass) (a .1 .1 .0),
+              (
+                q,
+                (
+                  table-alike (limits .in-flight) (pair-alike numberKey-alike (padded-alike purpose-within)) (pair-exactly numberKey-exactly (padded-exactly purpose-bytes purposeF)) .there (s .in-flight) (a .1 .1 .1 .1 .0),
+                  (
+                    a .1 .1 .1 .1 .1 .0,
+                    (
+                      table-alike (limits .learned) (pair-alike nameKey-alike (alike-self u64)) (pair-exactly nameKey-exactly (number-exactly 8)) .there (s .learned) (a .1 .1 .1 .1 .1 .1 .0),
+                      (
+                        a .1 .1 .1 .1 .1 .1 .1 .0,
+                        (
+                          padded-alike time-within .there (s .now) (a .1 .1 .1 .1 .1 .1 .1 .1 .0),
+                          table-alike (limits .aliases) (pair-alike nameKey-alike nameKey-alike) (pair-exactly nameKey-exactly nameKey-exactly) .there (s .aliases) (a .1 .1 .1 .1 .1 .1 .1 .1 .1),
+                        ),
+                      ),
+                    ),
+                  ),
+                ),
+              ),
+            ),
+          ),
+        ),
+        w .ruled,
+      )
 
   pub state-back : (s : SyncState) → stateBytes limits .Ok s → WellFormed limits s
   unfolding stateBytes such partsBytes stateF via _⊗_ rules
@@ -386,16 +420,34 @@ module _ (limits : Limits) where
       let t = ok .1 in
       let q = rows-of (s .edits) (a .1 .1 .1 .0) (every-at (rules limits s) 7 t) (leb-true _ _ (true-of (every-at (rules limits s) 6 t))) in
       record {
-        fits = (table-alike (limits .records) (pair-alike nameKey-alike (padded-alike event-within)) (pair-exactly nameKey-exactly (padded-exactly event-bytes eventF)) .back (s .records) (a .0),
-            (padded-alike cursor-within .back (s .cursor) (a .1 .0),
-            (then-alike (option-alike passBytes-alike) (padded-alike (option-within (exactly-within (passBytes-exactly limits)))) .back (s .pass) (a .1 .1 .0),
-            (q,
-            (table-alike (limits .in-flight) (pair-alike numberKey-alike (padded-alike purpose-within)) (pair-exactly numberKey-exactly (padded-exactly purpose-bytes purposeF)) .back (s .in-flight) (a .1 .1 .1 .1 .0),
-            (a .1 .1 .1 .1 .1 .0,
-            (table-alike (limits .learned) (pair-alike nameKey-alike (alike-self u64)) (pair-exactly nameKey-exactly (number-exactly 8)) .back (s .learned) (a .1 .1 .1 .1 .1 .1 .0),
-            (a .1 .1 .1 .1 .1 .1 .1 .0,
-            (padded-alike time-within .back (s .now) (a .1 .1 .1 .1 .1 .1 .1 .1 .0),
-            table-alike (limits .aliases) (pair-alike nameKey-alike nameKey-alike) (pair-exactly nameKey-exactly nameKey-exactly) .back (s .aliases) (a .1 .1 .1 .1 .1 .1 .1 .1 .1))))))))));
+        fits = (
+          table-alike (limits .records) (pair-alike nameKey-alike (padded-alike event-within)) (pair-exactly nameKey-exactly (padded-exactly event-bytes eventF)) .back (s .records) (a .0),
+          (
+            padded-alike cursor-within .back (s .cursor) (a .1 .0),
+            (
+              then-alike (option-alike passBytes-alike) (padded-alike (option-within (exactly-within (passBytes-exactly limits)))) .back (s .pass) (a .1 .1 .0),
+              (
+                q,
+                (
+                  table-alike (limits .in-flight) (pair-alike numberKey-alike (padded-alike purpose-within)) (pair-exactly numberKey-exactly (padded-exactly purpose-bytes purposeF)) .back (s .in-flight) (a .1 .1 .1 .1 .0),
+                  (
+                    a .1 .1 .1 .1 .1 .0,
+                    (
+                      table-alike (limits .learned) (pair-alike nameKey-alike (alike-self u64)) (pair-exactly nameKey-exactly (number-exactly 8)) .back (s .learned) (a .1 .1 .1 .1 .1 .1 .0),
+                      (
+                        a .1 .1 .1 .1 .1 .1 .1 .0,
+                        (
+                          padded-alike time-within .back (s .now) (a .1 .1 .1 .1 .1 .1 .1 .1 .0),
+                          table-alike (limits .aliases) (pair-alike nameKey-alike nameKey-alike) (pair-exactly nameKey-exactly nameKey-exactly) .back (s .aliases) (a .1 .1 .1 .1 .1 .1 .1 .1 .1),
+                        ),
+                      ),
+                    ),
+                  ),
+                ),
+              ),
+            ),
+          ),
+        );
         ruled = t;
       }
 

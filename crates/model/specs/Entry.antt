@@ -77,6 +77,6 @@ unfoldable pub entry : Limits → Lent → Bytes → Answer
 entry limits lent frame =
     if lengths-right limits lent
     then (match read-state limits (lent .state)
-        none: leaves 2 (lent .state) [] lent
-        some: (λ s. answered limits lent (step-frame limits s (decode frame))))
+    none: leaves 2 (lent .state) [] lent
+    some: (λ s. answered limits lent (step-frame limits s (decode frame))))
     else record { code = 1; length = 0; lent = lent }
