@@ -1,0 +1,2 @@
+-- One function after another.
+pub mod Runs

@@ -1,0 +1,2 @@
+-- The shape of every contract of the state machine.
+pub mod Contract
