@@ -92,11 +92,12 @@ unfolding match_none:_some:_
 stage-closed name v w z = record {
   is = λ s h. rw (pass.closed s w h z);
   makes = λ s h y. subst (λ (x : SyncState). Keeps x w) (pass.pass-none (λ p. with-staged (insert by-name name v (p .staged)) p) s (pass.closed s w h z)) h;
+  stays = λ s h y. h;
 }
 
 staged-tries : (b slot w w′ : List ℕ) (r : Bool) → Named b → (getD w 9185 0 ≡ 0 → ⊥)
     → ((t : Table) → Sized 916 t → part 9221 9161 w ≡ encTable 9161 t → length t ≤ 10
-    → (r ≡ leb (length (insertSlot slot t)) 10) × (r ≡ true → w′ ≡ placed 9221 9161 (encTable 9161 (insertSlot slot t)) w))
+    → (r ≡ leb (length (insertSlot slot t)) 10) × (r ≡ true → w′ ≡ placed 9221 9161 (encTable 9161 (insertSlot slot t)) w) × (r ≡ false → w′ ≡ w))
     → (v : Staged) → stagedF .Ok v → slot ≡ staged-slot (name-of b, v)
     → Tries (may-stage (name-of b) v) (with-stage (name-of b) v) w r w′
 staged-tries b slot w w′ r N z g v ok e =
@@ -104,12 +105,13 @@ staged-tries b slot w w′ r N z g v ok e =
     record {
       is = λ s h. let o = pass.opened s w h z in T .is s h ∙ in-limit (name-of b) v s (o .pass) (o .is);
       makes = λ s h y. let o = pass.opened s w h z in subst (λ (x : SyncState). Keeps x w′) (in-pass (insert by-name (name-of b) v) s (o .pass) (o .is)) (T .makes s h y);
+      stays = T .stays;
     }
 
 pub byte-tries : (b z1 r1 slot w w′ : List ℕ) (first : ℕ) (r : Bool) → Named b → (getD w 9185 0 ≡ 0 → ⊥)
     → z1 ≡ zeros 916 → r1 ≡ take 0 z1 ++ (b ++ drop (0 + length b) z1) → slot ≡ take 33 r1 ++ ((first ∷ []) ++ drop (33 + 1) r1)
     → ((t : Table) → Sized 916 t → part 9221 9161 w ≡ encTable 9161 t → length t ≤ 10
-    → (r ≡ leb (length (insertSlot slot t)) 10) × (r ≡ true → w′ ≡ placed 9221 9161 (encTable 9161 (insertSlot slot t)) w))
+    → (r ≡ leb (length (insertSlot slot t)) 10) × (r ≡ true → w′ ≡ placed 9221 9161 (encTable 9161 (insertSlot slot t)) w) × (r ≡ false → w′ ≡ w))
     → (v : Staged) → stagedF .Ok v → first ∷ [] ≡ stagedF .enc v
     → Tries (may-stage (name-of b) v) (with-stage (name-of b) v) w r w′
 byte-tries b z1 r1 slot w w′ first r N z q p d g v ok e =
@@ -136,7 +138,7 @@ past b z1 r1 slot event l k q p d =
 pub event-tries : (b event z1 r1 slot w w′ : List ℕ) (r : Bool) → Named b → length event ≤ 882 → (getD w 9185 0 ≡ 0 → ⊥)
     → z1 ≡ zeros 916 → r1 ≡ take 0 z1 ++ (b ++ drop (0 + length b) z1) → slot ≡ take 34 r1 ++ (event ++ drop (34 + length event) r1)
     → ((t : Table) → Sized 916 t → part 9221 9161 w ≡ encTable 9161 t → length t ≤ 10
-    → (r ≡ leb (length (insertSlot slot t)) 10) × (r ≡ true → w′ ≡ placed 9221 9161 (encTable 9161 (insertSlot slot t)) w))
+    → (r ≡ leb (length (insertSlot slot t)) 10) × (r ≡ true → w′ ≡ placed 9221 9161 (encTable 9161 (insertSlot slot t)) w) × (r ≡ false → w′ ≡ w))
     → (e : ProviderEvent) → eventF .Ok e → event ≡ eventF .enc e
     → Tries (may-stage (name-of b) (Staged.Present e)) (with-stage (name-of b) (Staged.Present e)) w r w′
 unfolding stagedF via enum _∣_
