@@ -1,2 +1,4 @@
 -- One function after another.
 pub mod Runs
+-- Effects and inserts.
+pub mod Steps

@@ -26,7 +26,7 @@ next {f} {g} {w₁ = w₁} {o₁} {w₂} {o₂} {q = q} {s} d e = record {
   state = λ h. e .state (d .state h);
 }
 
-edited : {f : SyncState → SyncState} {w w′ : List ℕ} → Edits f w w′ → HasState w → HasState w′
+pub edited : {f : SyncState → SyncState} {w w′ : List ℕ} → Edits f w w′ → HasState w → HasState w′
 edited {f} e h = record { state = f (h .state); keeps = e .makes (h .state) (h .keeps) }
 
 -- let m = f m, and then g
