@@ -5,7 +5,7 @@ use mathlib.Core.Path.{_≡_, refl, sym, ap, ap₂, _∙_, subst}
 use mathlib.Core.List.{List, [], _∷_, _++_, append-assoc, append-nil}
 use mathlib.Core.Option.{Option, none, some}
 use mathlib.Core.Bool.{Bool, true, false, not, _&&_, _||_}
-use lib.ListN.{length, take, drop, getD, length-append, length-drop, length-replicate, replicate-append-replicate}
+use lib.ListN.{length, take, drop, getD, length-append, length-drop, length-replicate, replicate-append-replicate, take-append-drop}
 use lib.Seq.{take-at, drop-at, drop-drop, drop-append-add, take-all, getD-drop}
 use lib.Dec.{leb, ltb, isEq}
 use borrow.Author.Tests.{le-leb, lt-leb, lt-ltb, le-ltb}
@@ -158,6 +158,17 @@ series-room e b p U = room p 12 b _ (U .is) (longer (option eventId .enc (e .ids
 
 pub revision-room : (e : ProviderEvent) (b : List ℕ) (p : ℕ) → RevisionAt e b p → p + 12 ≤ length b
 revision-room e b p U = room p 12 b _ (U .is) (longer (option shortText .enc (e .revision)) _ 12 (revision-long e (U .rest) (U .some))) (omega arith)
+
+-- ---- an event in the state
+
+-- where an event's field stands, the event does
+pub stands-padded : (e : ProviderEvent) (w : List ℕ) (p : ℕ) → eventF .Ok e → take 882 (drop p w) ≡ field 882 eventF e → Stands e w p
+unfolding padded
+stands-padded e w p ok q = record {
+  ok = ok;
+  rest = zeros (882 - length (eventF .enc e)) ++ drop 882 (drop p w);
+  is = sym (take-append-drop 882 (drop p w)) ∙ ap (λ (x : List ℕ). x ++ drop 882 (drop p w)) q ∙ append-assoc (eventF .enc e) (zeros (882 - length (eventF .enc e))) (drop 882 (drop p w));
+}
 
 -- ---- the version
 
