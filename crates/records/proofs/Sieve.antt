@@ -125,25 +125,25 @@ turn s w w′ i left r kept (e ∷ rest) h q a b l T =
     let z : suc (length rest) ≡ left = b in
     ⊎-elim
     (λ u.
-        let n : length (kept ++ (e ∷ [])) ≡ length kept + 1 = length-append kept (e ∷ []) in
-        let o : r ≡ i + 1 = u .1 in
-        record {
-          kept = kept ++ (e ∷ []);
-          rest = rest;
-          here = subst (λ (m : Rows). Keeps (with-records m s) w′) (sym (append-assoc kept (e ∷ []) rest)) (u .2);
-          want = q ∙ ap (λ (m : Rows). kept ++ m) (filter-in (seen-in s) e rest true (u .0)) ∙ sym (append-assoc kept (e ∷ []) (filter (seen-in s) rest));
-          at = omega arith;
-          todo = omega arith;
-        })
+    let n : length (kept ++ (e ∷ [])) ≡ length kept + 1 = length-append kept (e ∷ []) in
+    let o : r ≡ i + 1 = u .1 in
+    record {
+      kept = kept ++ (e ∷ []);
+      rest = rest;
+      here = subst (λ (m : Rows). Keeps (with-records m s) w′) (sym (append-assoc kept (e ∷ []) rest)) (u .2);
+      want = q ∙ ap (λ (m : Rows). kept ++ m) (filter-in (seen-in s) e rest true (u .0)) ∙ sym (append-assoc kept (e ∷ []) (filter (seen-in s) rest));
+      at = omega arith;
+      todo = omega arith;
+    })
     (λ u.
-        record {
-          kept = kept;
-          rest = rest;
-          here = u .2;
-          want = q ∙ ap (λ (m : Rows). kept ++ m) (filter-in (seen-in s) e rest false (u .0));
-          at = a ∙ sym (u .1);
-          todo = omega arith;
-        })
+    record {
+      kept = kept;
+      rest = rest;
+      here = u .2;
+      want = q ∙ ap (λ (m : Rows). kept ++ m) (filter-in (seen-in s) e rest false (u .0));
+      at = a ∙ sym (u .1);
+      todo = omega arith;
+    })
     (T .is (with-records (kept ++ (e ∷ rest)) s) h kept rest e refl a)
 
 pub retain-turn : (w₀ w w′ : List ℕ) (i left r : ℕ) → Retaining w₀ w i left → 0 < left → Tested i w r w′ → Retaining w₀ w′ r (left - 1)

@@ -286,6 +286,7 @@ staged-event w i K l = record {
   where
     drop-append-of : (a b : List ℕ) → length a ≡ 33 → drop 34 (a ++ b) ≡ drop 1 b
     drop-append-of a b l = ap (λ (n : ℕ). drop (n + 1) (a ++ b)) (sym l) ∙ drop-append-add a b 1
+
     event-long : (e : ProviderEvent) → eventF .Ok e → length (field 882 eventF e) ≡ 882
     event-long e ok = length-field event-within e ok
 

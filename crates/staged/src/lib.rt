@@ -56,14 +56,7 @@ fn stage_byte(work: &mut [u8], name: Name, first: u8) -> bool
     let mut slot = [0u8; 916];
     tables::put_slot(&mut slot, 0, &key);
     tables::put_slot(&mut slot, 33, &byte);
-    lent::insert_in(
-        work,
-        STAGED,
-        STAGED_SIZE,
-        STAGED_SLOT,
-        STAGED_LIMIT,
-        &slot,
-    )
+    lent::insert_in(work, STAGED, STAGED_SIZE, STAGED_SLOT, STAGED_LIMIT, &slot)
 }
 
 pub fn stage_unread(work: &mut [u8], name: Name) -> bool
@@ -95,14 +88,7 @@ pub fn stage_event(work: &mut [u8], name: Name, event: &[u8]) -> bool
     let mut slot = [0u8; 916];
     tables::put_slot(&mut slot, 0, &key);
     tables::put_slot(&mut slot, 34, event);
-    lent::insert_in(
-        work,
-        STAGED,
-        STAGED_SIZE,
-        STAGED_SLOT,
-        STAGED_LIMIT,
-        &slot,
-    )
+    lent::insert_in(work, STAGED, STAGED_SIZE, STAGED_SLOT, STAGED_LIMIT, &slot)
 }
 
 pub fn unstage(work: &mut [u8], name: Name)
