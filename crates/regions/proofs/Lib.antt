@@ -1,3 +1,4 @@
 pub mod Fields
 pub mod Slots
 pub mod Entries
+pub mod Places
