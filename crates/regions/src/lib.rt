@@ -419,3 +419,80 @@ pub fn aliases_in(state: &[u8]) -> bool
 {
     table_at(state, ALIASES, ALIASES_SIZE, ALIASES_LIMIT, Slot::Alias)
 }
+
+// ---- the pass
+
+const OPEN: usize = 9185;
+
+// from the open byte to the waiting entries
+const PASS_SIZE: usize = 10817;
+
+// The regions of an open pass, behind its open byte.
+fn open_in(state: &[u8]) -> bool
+    requires { ⌜ length (now state) ≡ state-length ⌝ }
+    ensures { λ r. ⌜ (r ≡ true → OpenIn (now (state .entry))) × (OpenIn (now (state .entry)) → r ≡ true) ⌝ }
+{
+    if !full_in(state) {
+        return false;
+    }
+    if !from_in(state) {
+        return false;
+    }
+    if !staged_in(state) {
+        return false;
+    }
+    if !seen_in(state) {
+        return false;
+    }
+    if !observed_in(state) {
+        return false;
+    }
+    done_in(state)
+}
+
+pub fn pass_in(state: &[u8]) -> bool
+    requires { ⌜ length (now state) ≡ state-length ⌝ }
+    ensures { λ r. ⌜ (r ≡ true → PassIn (now (state .entry))) × (PassIn (now (state .entry)) → r ≡ true) ⌝ }
+{
+    let open = state[OPEN];
+    if open == 0 {
+        return zeros_at(state, OPEN, PASS_SIZE);
+    }
+    if open == 1 {
+        return open_in(state);
+    }
+    false
+}
+
+// ---- all but the waiting entries
+
+pub fn others_in(state: &[u8]) -> bool
+    requires { ⌜ length (now state) ≡ state-length ⌝ }
+    ensures { λ r. ⌜ (r ≡ true → OthersIn (now (state .entry))) × (OthersIn (now (state .entry)) → r ≡ true) ⌝ }
+{
+    if !records_in(state) {
+        return false;
+    }
+    if !cursor_in(state) {
+        return false;
+    }
+    if !pass_in(state) {
+        return false;
+    }
+    if !flights_in(state) {
+        return false;
+    }
+    if !next_request_in(state) {
+        return false;
+    }
+    if !learned_in(state) {
+        return false;
+    }
+    if !learned_all_in(state) {
+        return false;
+    }
+    if !now_in(state) {
+        return false;
+    }
+    aliases_in(state)
+}
