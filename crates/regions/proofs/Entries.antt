@@ -7,13 +7,12 @@ use mathlib.Core.List.{List, [], _∷_, _++_, append-assoc, append-nil}
 use mathlib.Core.Bool.{Bool, true, false, _&&_}
 use borrow.Author.Tests.{lt-ltb, eqb-true}
 use lib.Dec.{T, eqb}
-use lib.ListN.{length, take, drop, getD, length-append, length-replicate, length-drop, take-append-drop}
-use lib.Seq.{take-at, drop-at, take-all, drop-drop}
+use lib.ListN.{length, take, drop, length-append, length-replicate, length-drop, take-append-drop}
+use lib.Seq.{take-at, drop-at, take-all}
 use Rattle.format.specs.Format.{Format, Lawful, All, text, number, bigEndian}
 use Rattle.spans.specs.Bytes.{zeros, both, allZero}
 use Rattle.spans.specs.Compare.{order}
-use Rattle.spans.specs.declared.Order.{Order}
-use Rattle.tables.specs.Table.{Table, flat, Sized, encTable, slotsOf, text as key-text, keyOk, keysOk, isLess, rising, risingFrom, WellFormed}
+use Rattle.tables.specs.Table.{Table, Sized, encTable, slotsOf, text as key-text, keyOk, keysOk, isLess, rising, risingFrom, WellFormed}
 use Rattle.tables.proofs.Laws as tables
 use Rattle.lent.specs.Lent.{part}
 use Rattle.model.specs.Event.{Text}
@@ -27,14 +26,13 @@ use Rattle.model.proofs.FormatsLaws.{resourceId-law, u64-law}
 use Rattle.model.proofs.SavedFormLaws.{purposeF-law}
 use Rattle.model.proofs.Tables.{turned, by-name-turned, compare-turned}
 use Rattle.state.specs.Layout.{padded, field, name-slot, number-key, flight-slot, region}
-use Rattle.state.specs.Fits.{Held, Names}
 use Rattle.state.proofs.Widths.{Within, purpose-within, length-digits}
-use Rattle.state.proofs.Padded.{length-field, length-name, length-number, text-name, text-name-only, text-number, number-is}
+use Rattle.state.proofs.Padded.{length-field, length-name, text-name, text-name-only, text-number, number-is}
 use Rattle.state.proofs.Orders.{flipped, name-order, number-order}
 use Rattle.state.proofs.Rows.{length-rows, sized-rows}
 use Rattle.state.proofs.Regions.{rows-long, flight-long}
 use Rattle.regions.specs.Tests.{filled, isField, isNamed, isFlight, everySlot}
-use Rattle.regions.specs.Inside.{FieldIn, MapIn, NamesIn}
+use Rattle.regions.specs.Inside.{MapIn, NamesIn}
 use Rattle.regions.proofs.Fields.{field-yes, field-no}
 use Rattle.regions.specs.declared.Value.{Value}
 

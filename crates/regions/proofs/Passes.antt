@@ -1,11 +1,11 @@
 -- The regions of a pass: zeros where none is open, and a pass that fits behind the byte 1. Assumes nothing.
-use Prim.Native.Nat.{ℕ, _+_, _-_, _≤_, _<_}
+use Prim.Native.Nat.{ℕ, suc, _+_, _-_, _≤_}
 use native.Mathlib.Omega.{arith}
 use mathlib.Core.Path.{_≡_, refl, sym, ap, ap₂, _∙_}
 use mathlib.Core.List.{List, [], _∷_, _++_}
 use mathlib.Core.Option.{Option, none, some}
 use mathlib.Core.Bool.{Bool, true, false}
-use lib.ListN.{length, take, drop, getD, length-replicate, replicate-append-replicate}
+use lib.ListN.{length, take, getD, length-replicate, replicate-append-replicate}
 use lib.Seq.{drop-cons, take-at, drop-at}
 use Rattle.format.specs.Format.{bool, option, via, enum, below, _∣_, nothing}
 use Rattle.spans.specs.Bytes.{zeros, allZero}
@@ -15,7 +15,7 @@ use Rattle.lent.specs.Lent.{part}
 use Rattle.model.specs.Seam.{ListFrom}
 use Rattle.model.specs.State.{Pass}
 use Rattle.model.specs.Limits.{document01}
-use Rattle.model.specs.Maps.{by-name, map, is-some, keys}
+use Rattle.model.specs.Maps.{map, is-some, keys}
 use Rattle.model.specs.WellFormed.{rising}
 use Rattle.model.specs.Formats.{shortText, listFromF}
 use Rattle.state.specs.Layout.{padded, field, region, name-slot, staged-slot, pass-of, no-pass}
@@ -25,21 +25,25 @@ use Rattle.regions.specs.Inside.{OpenIn, PassIn}
 
 -- ---- runs of zeros
 
+zeros-split : (o k m : ℕ) → part o k (zeros (o + (k + m))) ≡ zeros k
+zeros-split o k m =
+    ap (part o k) (sym (replicate-append-replicate o (k + m) 0))
+    ∙ ap (take k) (drop-at (zeros o) (zeros (k + m)) o (length-replicate o 0))
+    ∙ ap (take k) (sym (replicate-append-replicate k m 0))
+    ∙ take-at (zeros k) (zeros m) k (length-replicate k 0)
+
 zeros-part : (n o k : ℕ) → o + k ≤ n → part o k (zeros n) ≡ zeros k
 zeros-part n o k h =
     let e : n ≡ o + (k + (n - o - k)) = omega arith in
-    let s : zeros n ≡ zeros o ++ (zeros k ++ zeros (n - o - k)) =
-    ap zeros e ∙ sym (replicate-append-replicate o (k + (n - o - k)) 0) ∙ ap (λ (l : List ℕ). zeros o ++ l) (sym (replicate-append-replicate k (n - o - k) 0)) in
-    ap (λ (l : List ℕ). take k (drop o l)) s ∙ ap (take k) (drop-at (zeros o) (zeros k ++ zeros (n - o - k)) o (length-replicate o 0)) ∙ take-at (zeros k) (zeros (n - o - k)) k (length-replicate k 0)
+    ap (λ (j : ℕ). part o k (zeros j)) e ∙ zeros-split o k (n - o - k)
 
 -- ---- the bytes of `no-pass`
 
-empty : (n : ℕ) → encTable (1 + n) [] ≡ zeros (1 + n)
+empty : (n : ℕ) → encTable (suc n) [] ≡ zeros (suc n)
 unfolding encTable
 empty n =
-    let e : 1 + n - 1 - 0 ≡ n = omega arith in
-    let k : zeros 1 ++ zeros n ≡ zeros (1 + n) = replicate-append-replicate 1 n 0 in
-    ap (λ (k : ℕ). 0 ∷ zeros k) e ∙ k
+    let e : suc n - 1 - 0 ≡ n = omega arith in
+    ap (λ (k : ℕ). 0 ∷ zeros k) e
 
 no-text : field 34 (option shortText) none ≡ zeros 34
 unfolding option via enum _∣_ nothing padded

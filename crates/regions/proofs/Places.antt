@@ -1,23 +1,23 @@
 -- Each region by its place: it passes its test exactly where it holds a value that fits. Assumes nothing.
 use Prim.Native.Nat.{ℕ, _+_, _*_, _≤_, Ordering}
 use native.Mathlib.Omega.{arith}
-use mathlib.Core.Path.{_≡_, refl, sym, ap, _∙_, subst}
+use mathlib.Core.Path.{_≡_, refl, sym, _∙_}
 use mathlib.Core.List.{List}
 use mathlib.Core.Bool.{Bool, true}
 use lib.ListN.{length}
 use Rattle.format.specs.Format.{Format, Lawful}
 use Rattle.tables.proofs.Laws as tables
 use Rattle.lent.specs.Lent.{part}
-use Rattle.model.specs.Event.{Text, ProviderEvent}
-use Rattle.model.specs.Seam.{RequestId, ResourceId}
-use Rattle.model.specs.State.{Staged, Purpose}
+use Rattle.model.specs.Event.{ProviderEvent}
+use Rattle.model.specs.Seam.{ResourceId}
+use Rattle.model.specs.State.{Staged}
 use Rattle.model.specs.Limits.{document01}
-use Rattle.model.specs.Maps.{by-name, by-number}
+use Rattle.model.specs.Maps.{by-name}
 use Rattle.model.specs.Formats.{resourceId, u64, eventF}
-use Rattle.model.specs.SavedForm.{stagedF, purposeF}
+use Rattle.model.specs.SavedForm.{stagedF}
 use Rattle.model.proofs.FormatsLaws.{resourceId-law, u64-law, eventF-law}
 use Rattle.model.proofs.SavedFormLaws.{stagedF-law}
-use Rattle.state.specs.Layout.{name-slot, record-slot, staged-slot, flight-slot, learned-slot, alias-slot}
+use Rattle.state.specs.Layout.{record-slot, staged-slot, learned-slot, alias-slot}
 use Rattle.state.specs.Contract.{state-length}
 use Rattle.state.proofs.Widths.{event-within, staged-within, number-8, name-within}
 use Rattle.regions.specs.Tests.{filled, isSlot, stride, key-width}

@@ -1,6 +1,5 @@
 -- A buffer of the whole length is a state's bytes exactly where each region holds a value that fits. Assumes nothing.
-use Prim.Native.Nat.{ℕ, _+_, _^_, _<_}
-use native.Mathlib.Omega.{arith}
+use Prim.Native.Nat.{ℕ}
 use mathlib.Core.Path.{_≡_, refl, sym, ap, ap₂, _∙_}
 use mathlib.Core.List.{List, [], _∷_}
 use lib.ListN.{length}
@@ -9,7 +8,7 @@ use Rattle.tables.specs.Table.{Table, flat, cutAt}
 use Rattle.tables.proofs.Laws as tables
 use Rattle.model.specs.State.{SyncState}
 use Rattle.model.specs.Limits.{document01}
-use Rattle.state.specs.Layout.{regions, layout, pass-of}
+use Rattle.state.specs.Layout.{regions, layout}
 use Rattle.state.specs.Fits.{Fits}
 use Rattle.state.specs.Contract.{state-length, Keeps, HasState}
 use Rattle.state.proofs.Parts as parts

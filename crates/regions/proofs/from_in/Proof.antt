@@ -5,9 +5,6 @@ use native.Mathlib.Omega.{arith}
 use borrow.Author.Needs.{needs}
 use Rattle.regions.proofs.from_in.Statement.{statement}
 use Rattle.regions.proofs.from_in.Tie as tie
-use Rattle.regions.proofs.from_in.Reads as reads
-use Rattle.regions.proofs.from_in.Lts as lts
-use Rattle.regions.proofs.field_at.Reads as field-at-reads
 
 field-at-requires : tie.Need-field-at-requires
 field-at-requires c κs = search needs

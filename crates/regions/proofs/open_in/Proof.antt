@@ -1,20 +1,9 @@
-use denote.Ref.{now}
-use mathlib.Core.Path.{_≡_, sym, _∙_}
+use mathlib.Core.Path.{sym, _∙_}
 use borrow.Author.Tests.{not-true, not-false}
 use Rattle.tables.proofs.Laws as tables
-use Rattle.regions.specs.Inside.{OpenIn}
-use native.Mathlib.Omega.{arith}
 use borrow.Author.Needs.{needs}
 use Rattle.regions.proofs.open_in.Statement.{statement}
 use Rattle.regions.proofs.open_in.Tie as tie
-use Rattle.regions.proofs.open_in.Reads as reads
-use Rattle.regions.proofs.open_in.Lts as lts
-use Rattle.regions.proofs.done_in.Reads as done-in-reads
-use Rattle.regions.proofs.from_in.Reads as from-in-reads
-use Rattle.regions.proofs.full_in.Reads as full-in-reads
-use Rattle.regions.proofs.observed_in.Reads as observed-in-reads
-use Rattle.regions.proofs.seen_in.Reads as seen-in-reads
-use Rattle.regions.proofs.staged_in.Reads as staged-in-reads
 
 full-in-requires : tie.Need-full-in-requires
 full-in-requires c κs = search needs

@@ -1,23 +1,10 @@
 use denote.Ref.{now}
-use mathlib.Core.Path.{_≡_, sym, _∙_}
+use mathlib.Core.Path.{sym, _∙_}
 use borrow.Author.Tests.{not-true, not-false}
 use Rattle.tables.proofs.Laws as tables
-use Rattle.regions.specs.Inside.{OthersIn}
-use native.Mathlib.Omega.{arith}
 use borrow.Author.Needs.{needs}
 use Rattle.regions.proofs.others_in.Statement.{statement}
 use Rattle.regions.proofs.others_in.Tie as tie
-use Rattle.regions.proofs.others_in.Reads as reads
-use Rattle.regions.proofs.others_in.Lts as lts
-use Rattle.regions.proofs.aliases_in.Reads as aliases-in-reads
-use Rattle.regions.proofs.cursor_in.Reads as cursor-in-reads
-use Rattle.regions.proofs.flights_in.Reads as flights-in-reads
-use Rattle.regions.proofs.learned_all_in.Reads as learned-all-in-reads
-use Rattle.regions.proofs.learned_in.Reads as learned-in-reads
-use Rattle.regions.proofs.next_request_in.Reads as next-request-in-reads
-use Rattle.regions.proofs.now_in.Reads as now-in-reads
-use Rattle.regions.proofs.pass_in.Reads as pass-in-reads
-use Rattle.regions.proofs.records_in.Reads as records-in-reads
 
 records-in-requires : tie.Need-records-in-requires
 records-in-requires c κs = search needs

@@ -1,16 +1,10 @@
 use denote.Ref.{now}
-use mathlib.Core.Path.{_≡_, sym, _∙_}
-use borrow.Author.Tests.{not-true, not-false}
+use mathlib.Core.Path.{sym, _∙_}
 use Rattle.tables.proofs.Laws as tables
 use Rattle.regions.proofs.Passes as passes
-use native.Mathlib.Omega.{arith}
 use borrow.Author.Needs.{needs}
 use Rattle.regions.proofs.pass_in.Statement.{statement}
 use Rattle.regions.proofs.pass_in.Tie as tie
-use Rattle.regions.proofs.pass_in.Reads as reads
-use Rattle.regions.proofs.pass_in.Lts as lts
-use Rattle.regions.proofs.open_in.Reads as open-in-reads
-use Rattle.regions.proofs.zeros_at.Reads as zeros-at-reads
 
 shared-slice-read-open : tie.Need-shared-slice-read-open
 shared-slice-read-open c = search needs

@@ -1,12 +1,8 @@
 use denote.Ref.{now}
 use Rattle.regions.proofs.Places as places
-use native.Mathlib.Omega.{arith}
 use borrow.Author.Needs.{needs}
 use Rattle.regions.proofs.seen_in.Statement.{statement}
 use Rattle.regions.proofs.seen_in.Tie as tie
-use Rattle.regions.proofs.seen_in.Reads as reads
-use Rattle.regions.proofs.seen_in.Lts as lts
-use Rattle.regions.proofs.table_at.Reads as table-at-reads
 
 table-at-requires : tie.Need-table-at-requires
 table-at-requires c κs = search needs
