@@ -1,0 +1,40 @@
+-- Where a waiting entry stands in the work buffer, and what stands at its fields' places. Assumes nothing.
+use Prim.Native.Nat.{ℕ, _+_, _≤_}
+use mathlib.Core.Path.{_≡_}
+use mathlib.Core.List.{List}
+use mathlib.Core.Option.{Option, none, some}
+use lib.ListN.{length, take, drop}
+use Rattle.format.specs.Format.{option, list, stamp, bool}
+use Rattle.tables.specs.declared.Place.{Place}
+use Rattle.tables.specs.declared.Place.the-variants.{Found, Missing}
+use Rattle.model.specs.Seam.{ResourceId}
+use Rattle.model.specs.State.{Pending, SyncState}
+use Rattle.model.specs.Limits.{document01}
+use Rattle.model.specs.Formats.{shortText, operationF, roleF, conflictsF, refusalsF}
+use Rattle.state.specs.Layout.{field, pending-slot}
+use Rattle.state.specs.Fits.{PendingFits}
+use Rattle.state.specs.Contract.{Keeps}
+use Rattle.waiting.specs.Queues.{queue, nth}
+
+-- entry j of the queue of r, found at p: its slot's bytes, and its fields', each in its width
+pub record EntryAt (r : ResourceId) (j : ℕ) (w : List ℕ) (s : SyncState) (p : ℕ) : Type 0 where
+  pub entry : Pending
+  pub got : nth j (queue r s) ≡ some entry
+  pub fits : PendingFits document01 r entry
+  pub room : p + 5940 ≤ 55643
+  pub slot : take 5940 (drop p w) ≡ pending-slot document01 r entry
+  pub id : take 33 (drop (p + 33) w) ≡ field 33 shortText (entry .edit .id)
+  pub operation : take 1469 (drop (p + 66) w) ≡ field 1469 operationF (entry .edit .operation)
+  pub role : take 34 (drop (p + 1535) w) ≡ field 34 roleF (entry .edit .role)
+  pub expires-at : take 9 (drop (p + 1569) w) ≡ field 9 (option stamp) (entry .edit .expires-at)
+  pub conflicts : take 3072 (drop (p + 1578) w) ≡ field 3072 conflictsF (entry .conflicts)
+  pub refused : take 1024 (drop (p + 4650) w) ≡ field 1024 refusalsF (entry .refused)
+  pub collided : take 1 (drop (p + 5674) w) ≡ field 1 bool (entry .collided)
+  pub absorbed : take 265 (drop (p + 5675) w) ≡ field 265 (list 8 shortText) (entry .absorbed)
+
+unfoldable pub EntryIs : ResourceId → ℕ → List ℕ → SyncState → Place → Type 0
+EntryIs r j w s (Found p) = EntryAt r j w s p
+EntryIs r j w s (Missing p) = nth j (queue r s) ≡ none
+
+pub record FindsEntry (r : ResourceId) (j : ℕ) (w : List ℕ) (place : Place) : Type 0 where
+  pub is : (s : SyncState) → Keeps s w → EntryIs r j w s place

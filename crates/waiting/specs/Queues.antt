@@ -1,0 +1,60 @@
+-- The queues of a state: the model's `queue-of`, `set-queue` and `entries` without the machine around them. Assumes nothing.
+use Prim.Native.Nat.{ℕ, zero, suc, _+_, _-_}
+use mathlib.Core.List.{List, [], _∷_, _++_}
+use mathlib.Core.Option.{Option, none, some}
+use mathlib.Core.Bool.{Bool, true}
+use lib.ListN.{length, take, drop}
+use Rattle.model.specs.Seam.{ResourceId}
+use Rattle.model.specs.State.{Map, Pending, Queue, SyncState}
+use Rattle.model.specs.Maps.{by, by-name, get, insert, remove, map, values}
+use Rattle.model.specs.Machine.{match_none:_some:_, sum}
+use Rattle.model.specs.Sync.{with-resource}
+use Rattle.state.specs.Setters.{with-edits}
+
+-- ---- in the map
+
+unfoldable pub queue-in : ResourceId → Map ResourceId Queue → Queue
+queue-in r m = match get by-name r m none: [] some: (λ q. q)
+
+unfoldable pub put-in : ResourceId → Queue → Map ResourceId Queue → Map ResourceId Queue
+put-in r [] m = remove by-name r m
+put-in r (p ∷ q) m = insert by-name r (p ∷ q) m
+
+-- entries of the resources before r
+unfoldable pub below : ResourceId → Map ResourceId Queue → ℕ
+below r [] = 0
+below r (e ∷ m) = by (by-name r (e .0)) 0 0 (length (e .1) + below r m)
+
+-- ---- in the state
+
+abbrev pub queue : ResourceId → SyncState → Queue
+queue r s = queue-in r (s .edits)
+
+abbrev pub put-queue : ResourceId → Queue → SyncState → SyncState
+put-queue r q s = with-edits (put-in r q (s .edits)) s
+
+-- entries of all queues
+abbrev pub all-entries : SyncState → ℕ
+all-entries s = sum (map length (values (s .edits)))
+
+-- ---- one queue
+
+-- the j-th entry, counted from 0
+unfoldable pub nth : ℕ → Queue → Option Pending
+nth j [] = none
+nth zero (p ∷ q) = some p
+nth (suc j) (p ∷ q) = nth j q
+
+-- without its j-th entry
+unfoldable pub without : ℕ → Queue → Queue
+without j q = take j q ++ drop (suc j) q
+
+-- its j-th entry changed
+unfoldable pub change-at : ℕ → (Pending → Pending) → Queue → Queue
+change-at j f [] = []
+change-at zero f (p ∷ q) = f p ∷ q
+change-at (suc j) f (p ∷ q) = p ∷ change-at j f q
+
+-- the entry under another name
+unfoldable pub renamed : ResourceId → Pending → Pending
+renamed to p = record { edit = with-resource to (p .edit); conflicts = p .conflicts; refused = p .refused; collided = p .collided; absorbed = p .absorbed }

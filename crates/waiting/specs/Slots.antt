@@ -1,0 +1,61 @@
+-- The table of the waiting entries in the work buffer: 35,641 bytes at 20,002, slots of 5,940. Assumes nothing.
+use Prim.Native.Nat.{ℕ, zero, suc, _+_, _≤_}
+use mathlib.Core.Path.{_≡_}
+use mathlib.Core.List.{List, [], _∷_, _++_}
+use mathlib.Core.Bool.{Bool, true, false}
+use lib.ListN.{length, take, drop, getD, set}
+use Rattle.spans.specs.Compare.{order}
+use Rattle.spans.specs.declared.Order.{Order}
+use Rattle.spans.specs.declared.Order.the-variants.{Less, Equal, Greater}
+use Rattle.tables.specs.Table.{Table, Sized, encTable, text}
+use Rattle.lent.specs.Lent.{placed}
+use Rattle.state.specs.Layout.{padded}
+use Rattle.state.specs.Contract.{state-length}
+
+-- w is w₀ with the slots t for its waiting entries. Between two writes of a function they need not be a state's.
+pub record Slots (t : Table) (w₀ w : List ℕ) : Type 0 where
+  pub bytes : w ≡ placed 20002 35641 (encTable 35641 t) w₀
+  pub sized : Sized 5940 t
+  pub few : length t ≤ 6
+  pub outer : length w₀ ≡ state-length
+  pub long : length w ≡ state-length
+  pub count : getD w 20002 0 ≡ length t
+
+-- what callers show
+pub record HasSlots (w : List ℕ) : Type 0 where
+  pub t : Table
+  pub w₀ : List ℕ
+  pub slots : Slots t w₀ w
+
+-- a reading function gives f of the slots
+pub record ReadsSlots {A : Type 0} (f : Table → A) (w : List ℕ) (r : A) : Type 0 where
+  pub is : (t : Table) (w₀ : List ℕ) → Slots t w₀ w → r ≡ f t
+
+-- an edit does f to the slots
+pub record EditsSlots (f : Table → Table) (w w′ : List ℕ) : Type 0 where
+  pub makes : (t : Table) (w₀ : List ℕ) → Slots t w₀ w → Slots (f t) w₀ w′
+
+-- ---- counting slots by their keys
+
+-- those whose key equals the one asked for, or those whose key is less
+abbrev pub counts : Bool → Order → ℕ
+counts true Less = 0
+counts true Equal = 1
+counts true Greater = 0
+counts false Less = 1
+counts false Equal = 0
+counts false Greater = 0
+
+unfoldable pub tallied : Bool → List ℕ → Table → ℕ
+tallied equal key [] = 0
+tallied equal key (s ∷ t) = counts equal (order (text s) (text key)) + tallied equal key t
+
+-- ---- slots changed
+
+-- a value of at most `width` bytes in the place of what stands at o of slot i
+abbrev pub rewritten : ℕ → ℕ → ℕ → List ℕ → Table → Table
+rewritten i o width b t = set t i (placed o width (padded width b) (getD t i []))
+
+-- slot x before slot i
+abbrev pub inserted : ℕ → List ℕ → Table → Table
+inserted i x t = take i t ++ (x ∷ drop i t)
