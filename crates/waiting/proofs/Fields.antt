@@ -83,8 +83,8 @@ unfolding document01
 slot-long r p k ok = pending-long document01 r k p ok
 
 -- field k, and another in its place
-pub field-of : (k : ℕ) (fs : Table) → Lens widths fs → k < 9 → k < length fs → take (getD widths k 0) (drop (offset widths k) (flat fs)) ≡ getD fs k []
-field-of k fs z h l = tables.region-of widths fs k z l
+pub field-of : (k : ℕ) (fs : Table) → Lens widths fs → k < length fs → take (getD widths k 0) (drop (offset widths k) (flat fs)) ≡ getD fs k []
+field-of k fs z l = tables.region-of widths fs k z l
 
 pub field-put : (k : ℕ) (fs : Table) (y : List ℕ) → Lens widths fs → k < length fs → placed (offset widths k) (getD widths k 0) y (flat fs) ≡ flat (set fs k y)
 field-put k fs y z l = tables.region-put widths fs k y z l

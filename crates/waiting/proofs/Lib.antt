@@ -2,3 +2,4 @@ pub mod Cuts
 pub mod Lists
 pub mod Fields
 pub mod Splices
+pub mod Laws

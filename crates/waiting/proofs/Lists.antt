@@ -7,6 +7,7 @@ use mathlib.Core.List.{List, [], _∷_, _++_, append-assoc, append-nil}
 use mathlib.Core.Option.{Option, none, some, Option·some-injective, Option·none-ne-some}
 use lib.ListN.{length, take, drop, getD, set, length-append, length-take, length-drop, take-append-drop, List·getD-append}
 use lib.Seq.{length-take-le, take-at, drop-at, take-append-le, drop-append-le, take-append-add, drop-append-add, take-length, drop-length, set-append-left, getD-append-add, getD-take, getD-drop, take-add, drop-drop, take-take, take-nil}
+use Rattle.format.specs.Format.{All}
 use Rattle.model.specs.State.{Pending, Queue}
 use Rattle.model.specs.Maps.{map}
 use Rattle.lent.specs.Lent.{part, placed}
@@ -147,3 +148,9 @@ placed-in at len o n y w h k =
     ∙ ap (λ (b : List ℕ). take o x ++ b) (sym (append-assoc y (take (len - o - n) z) (drop len x)))
     ∙ sym (append-assoc (take o x) (y ++ take (len - o - n) z) (drop len x)))
     ∙ ap (λ (b : List ℕ). take at w ++ (b ++ drop len x)) (sym u)
+
+pub nth-all : (P : Pending → Type 0) (j : ℕ) (q : Queue) (p : Pending) → All P q → nth j q ≡ some p → P p
+unfolding nth
+nth-all P j [] p a e = absurd (Option·none-ne-some p e)
+nth-all P zero (x ∷ q) p a e = subst P (some-of e) (a .0)
+nth-all P (suc j) (x ∷ q) p a e = nth-all P j q p (a .1) e

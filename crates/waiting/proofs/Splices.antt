@@ -122,3 +122,30 @@ reads-before b w n r e R = record { is = λ s h. R .is (Flat (s .edits)) w (slot
 
 pub reads-all : (w : List ℕ) (n : ℕ) → n ≡ getD w 20002 0 → Reads all-entries w n
 reads-all w n e = record { is = λ s h. e ∙ slots-of h .count ∙ flat-count (s .edits) }
+
+-- ---- one slot
+
+pub slot-in : {t : Table} {w₀ w : List ℕ} (k : ℕ) → Slots t w₀ w → k < length t → (take 5940 (drop (20002 + (1 + k * 5940)) w) ≡ getD t k []) × (20002 + (1 + k * 5940) + 5940 ≤ 55643)
+slot-in {t} {w₀} {w} k S h =
+    let f = S .few in
+    let g : suc k ≤ 6 = omega arith in
+    let a : suc k * 5940 ≤ 6 * 5940 = mul-le-mul-right 5940 g in
+    let b : suc k * 5940 ≡ k * 5940 + 5940 = suc-mul k 5940 in (
+      tables.field-of w 35641 20002 (1 + k * 5940) 5940 (omega arith) ∙ ap (λ (x : List ℕ). take 5940 (drop (1 + k * 5940) x)) (slots-part S) ∙ tables.slot-at 5940 35641 k t (S .sized) h,
+      omega arith,
+    )
+
+module _ {s : SyncState} {w : List ℕ} (r : ResourceId) (h : Keeps s w) where
+  pub rows-count : length (Flat (s .edits)) ≡ below r (s .edits) + (length (queue r s) + length (cut-of r h .post))
+  rows-count =
+      let C = cut-of r h in
+      let q : Queue = queue r s in
+      ap length (C .is) ∙ length-append (C .pre) (Rows r q ++ C .post) ∙ ap₂ _+_ (C .first) (length-append (Rows r q) (C .post) ∙ ap (λ (n : ℕ). n + length (C .post)) (length-rows (Slot r) q))
+
+  -- the slot of entry j
+  pub row-of : (j : ℕ) (p : Pending) → nth j (queue r s) ≡ some p → j < length (queue r s) → getD (Flat (s .edits)) (below r (s .edits) + j) [] ≡ Slot r p
+  row-of j p e l =
+      let C = cut-of r h in
+      let q : Queue = queue r s in
+      let n : length (Rows r q) ≡ length q = length-rows (Slot r) q in
+      ap₂ (λ (t : Table) (i : ℕ). getD t (i + j) []) (C .is) (sym (C .first)) ∙ lists.at-mid (C .pre) (Rows r q) (C .post) j [] (omega arith) ∙ lists.nth-row (Slot r) j q p e

@@ -16,9 +16,8 @@ use Rattle.state.specs.Fits.{PendingFits}
 use Rattle.state.specs.Contract.{Keeps}
 use Rattle.waiting.specs.Queues.{queue, nth}
 
--- entry j of the queue of r, found at p: its slot's bytes, and its fields', each in its width
-pub record EntryAt (r : ResourceId) (j : ℕ) (w : List ℕ) (s : SyncState) (p : ℕ) : Type 0 where
-  pub entry : Pending
+-- entry j of the queue of r stands at p: its slot's bytes, and its fields', each in its width
+pub record EntryAt (r : ResourceId) (j : ℕ) (w : List ℕ) (s : SyncState) (p : ℕ) (entry : Pending) : Type 0 where
   pub got : nth j (queue r s) ≡ some entry
   pub fits : PendingFits document01 r entry
   pub room : p + 5940 ≤ 55643
@@ -32,8 +31,12 @@ pub record EntryAt (r : ResourceId) (j : ℕ) (w : List ℕ) (s : SyncState) (p 
   pub collided : take 1 (drop (p + 5674) w) ≡ field 1 bool (entry .collided)
   pub absorbed : take 265 (drop (p + 5675) w) ≡ field 265 (list 8 shortText) (entry .absorbed)
 
+pub record SomeEntryAt (r : ResourceId) (j : ℕ) (w : List ℕ) (s : SyncState) (p : ℕ) : Type 0 where
+  pub entry : Pending
+  pub is : EntryAt r j w s p entry
+
 unfoldable pub EntryIs : ResourceId → ℕ → List ℕ → SyncState → Place → Type 0
-EntryIs r j w s (Found p) = EntryAt r j w s p
+EntryIs r j w s (Found p) = SomeEntryAt r j w s p
 EntryIs r j w s (Missing p) = nth j (queue r s) ≡ none
 
 pub record FindsEntry (r : ResourceId) (j : ℕ) (w : List ℕ) (place : Place) : Type 0 where

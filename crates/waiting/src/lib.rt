@@ -1,1 +1,121 @@
 // The waiting edits: one table, a slot for each entry, by resource and then in the queue's order.
+use names::Name;
+use spans::Order;
+use tables::Place;
+ghost use mathlib.Core.Path.{_≡_};
+ghost use mathlib.Core.Bool.{true, false};
+ghost use Prim.Native.Nat.{_+_, _*_, _≤_, _<_};
+ghost use lib.ListN.{length, take, drop, getD};
+ghost use Rattle.spans.specs.Compare.{order};
+ghost use Rattle.tables.specs.Table.{Holds, slotsOf, text};
+ghost use Rattle.lent.specs.Lent.{placed};
+ghost use Rattle.state.specs.Layout.{padded};
+ghost use Rattle.state.specs.Contract.{HasState, Reads, Edits, Tries};
+ghost use Rattle.state.specs.Values.{name-of, Named};
+ghost use Rattle.waiting.specs.Queues.{below, queue, put-queue, all-entries, without, change-at};
+ghost use Rattle.waiting.specs.Slots.{HasSlots, ReadsSlots, EditsSlots, counts, tallied, rewritten, inserted};
+ghost use Rattle.waiting.specs.Entries.{FindsEntry};
+
+const EDITS: usize = 20002;
+
+const EDITS_SIZE: usize = 35641;
+
+const EDITS_SLOT: usize = 5940;
+
+// ---- counting slots by their keys
+
+// 1 if the key at `at` equals the one asked for (or, where `equal` is false, is less), else 0.
+fn ranks(region: &[u8], at: usize, stride: usize, key: &[u8], equal: bool) -> usize
+    requires { ⌜ (0 < stride) × (at + stride ≤ length (now region)) × (0 < length (now key)) ⌝ }
+    ensures { λ r. ⌜ r ≡ counts equal (order (text (take stride (drop at (now (region .entry))))) (text (now (key .entry)))) ⌝ }
+{
+    let end = at + stride;
+    let o = tables::key_order(&region[at..end], key);
+    match o {
+        Order::Less => {
+            if equal {
+                return 0;
+            }
+            return 1;
+        }
+        Order::Equal => {
+            if equal {
+                return 1;
+            }
+            return 0;
+        }
+        Order::Greater => {
+            return 0;
+        }
+    }
+}
+
+// How many slots have the key, or how many have a lesser one.
+fn tally(region: &[u8], stride: usize, key: &[u8], equal: bool) -> usize
+    requires { ⌜ Holds stride (now region) ⌝ }
+    requires { ⌜ 0 < length (now key) ⌝ }
+    ensures { λ r. ⌜ r ≡ tallied equal (now (key .entry)) (slotsOf stride (now (region .entry))) ⌝ }
+{
+    let mut left = region[0] as usize;
+    let mut at = 1;
+    let mut n = 0;
+    while 0 < left {
+        n += ranks(region, at, stride, key, equal);
+        at += stride;
+        left -= 1;
+    }
+    n
+}
+
+fn tally_in(work: &[u8], key: &[u8], equal: bool) -> usize
+    requires { ⌜ HasSlots (now work) ⌝ }
+    requires { ⌜ 0 < length (now key) ⌝ }
+    ensures { λ r. ⌜ ReadsSlots (tallied equal (now (key .entry))) (now (work .entry)) r ⌝ }
+{
+    let end = EDITS + EDITS_SIZE;
+    tally(&work[EDITS..end], EDITS_SLOT, key, equal)
+}
+
+// ---- reading
+
+// The entries of all queues.
+pub fn entries(work: &[u8]) -> usize
+    requires { ⌜ HasState (now work) ⌝ }
+    ensures { λ r. ⌜ Reads all-entries (now (work .entry)) r ⌝ }
+{
+    work[EDITS] as usize
+}
+
+// The entries of the resources before one: the number of its queue's first slot.
+fn entries_before(work: &[u8], name: Name) -> usize
+    requires { ⌜ HasState (now work) ⌝ }
+    requires { ⌜ Named (name .bytes) ⌝ }
+    ensures { λ r. ⌜ Reads (λ s. below (name-of (name .bytes)) (s .edits)) (now (work .entry)) r ⌝ }
+{
+    let key = name.bytes;
+    tally_in(work, &key, false)
+}
+
+// The entries of one queue.
+pub fn waiting_count(work: &[u8], name: Name) -> usize
+    requires { ⌜ HasState (now work) ⌝ }
+    requires { ⌜ Named (name .bytes) ⌝ }
+    ensures { λ r. ⌜ Reads (λ s. length (queue (name-of (name .bytes)) s)) (now (work .entry)) r ⌝ }
+{
+    let key = name.bytes;
+    tally_in(work, &key, true)
+}
+
+// Where the j-th entry of a queue stands in the work buffer, counted from 0.
+pub fn find_entry(work: &[u8], name: Name, j: usize) -> Place
+    requires { ⌜ HasState (now work) ⌝ }
+    requires { ⌜ Named (name .bytes) ⌝ }
+    ensures { λ r. ⌜ FindsEntry (name-of (name .bytes)) j (now (work .entry)) r ⌝ }
+{
+    let n = waiting_count(work, name);
+    if n <= j {
+        return Place::Missing(0);
+    }
+    let i = entries_before(work, name) + j;
+    Place::Found(EDITS + (1 + i * EDITS_SLOT))
+}

@@ -1,0 +1,138 @@
+-- What the functions of this crate cite: each law's premises are what the callees ensure. Assumes nothing.
+use Prim.Native.Nat.{ℕ, zero, suc, _+_, _-_, _*_, _≤_, _<_}
+use native.Mathlib.Nat.{add-zero, zero-add, not-suc-le-zero, mul-le-mul-right, suc-mul}
+use native.Mathlib.Omega.{arith}
+use mathlib.Core.Path.{_≡_, refl, sym, ap, ap₂, _∙_, subst}
+use mathlib.Core.List.{List, [], _∷_, _++_}
+use mathlib.Core.Option.{Option, none, some}
+use mathlib.Core.Bool.{Bool, true, false}
+use lib.ListN.{length, take, drop, getD, set}
+use Rattle.format.specs.Format.{All, option, list, stamp, bool}
+use Rattle.spans.specs.Compare.{order}
+use Rattle.spans.specs.declared.Order.{Order}
+use Rattle.spans.specs.declared.Order.the-variants.{Less, Equal, Greater}
+use Rattle.tables.specs.Table.{Table, flat, Sized, encTable, chunks, slotsOf, text, Lens, offset}
+use Rattle.tables.specs.declared.Place.{Place}
+use Rattle.tables.specs.declared.Place.the-variants.{Found, Missing}
+use Rattle.tables.proofs.Laws as tables
+use Rattle.lent.specs.Lent.{part, placed}
+use Rattle.lent.proofs.Laws as lent
+use Rattle.model.specs.Seam.{ResourceId}
+use Rattle.model.specs.State.{Pending, Queue, SyncState}
+use Rattle.model.specs.Limits.{document01}
+use Rattle.model.specs.Formats.{resourceId}
+use Rattle.state.specs.Layout.{padded}
+use Rattle.state.specs.Fits.{PendingFits}
+use Rattle.state.specs.Contract.{state-length, Keeps, HasState, Reads, Edits, Tries}
+use Rattle.state.specs.Values.{name-of, Named}
+use Rattle.waiting.specs.Queues.{below, queue, put-queue, nth}
+use Rattle.waiting.specs.Slots.{Slots, HasSlots, ReadsSlots, EditsSlots, counts, tallied, rewritten, inserted}
+use Rattle.waiting.specs.Entries.{EntryAt, EntryIs, FindsEntry}
+use Rattle.waiting.proofs.Cuts.{Slot, Rows, Flat, Cut}
+use Rattle.waiting.proofs.Lists as lists
+use Rattle.waiting.proofs.Fields as fields
+use Rattle.waiting.proofs.Splices as splices
+
+-- ---- counting slots
+
+pub ranked : (region key : List ℕ) (stride at : ℕ) (equal b : Bool) {o w : Order} → o ≡ order (text (take (at + stride - at) (drop at region))) (text key) → o ≡ w → equal ≡ b
+    → counts b w ≡ counts equal (order (text (take stride (drop at region))) (text key))
+ranked region key stride at equal b e q p =
+    let k : at + stride - at ≡ stride = omega arith in
+    ap₂ counts (sym p) (sym q ∙ e ∙ ap (λ (n : ℕ). order (text (take n (drop at region))) (text key)) k)
+
+pub ranked-above : (region key : List ℕ) (stride at : ℕ) (equal : Bool) {o : Order} → o ≡ order (text (take (at + stride - at) (drop at region))) (text key) → o ≡ Greater
+    → 0 ≡ counts equal (order (text (take stride (drop at region))) (text key))
+ranked-above region key stride at equal e q = sym (none equal) ∙ ranked region key stride at equal equal e q refl
+  where
+    none : (b : Bool) → counts b Greater ≡ 0
+    none true = refl
+    none false = refl
+
+counts-few : (b : Bool) (o : Order) → counts b o ≤ 1
+counts-few true Less = omega arith
+counts-few true Equal = omega arith
+counts-few true Greater = omega arith
+counts-few false Less = omega arith
+counts-few false Equal = omega arith
+counts-few false Greater = omega arith
+
+pub few : (equal : Bool) (region key : List ℕ) (stride at n : ℕ) → n ≡ counts equal (order (text (take stride (drop at region))) (text key)) → n ≤ 1
+few equal region key stride at n e = subst (λ (x : ℕ). x ≤ 1) (sym e) (counts-few equal _)
+
+pub tally-next : (equal : Bool) (key : List ℕ) (stride left at n k sum : ℕ) (r : List ℕ) → 0 < left → k ≡ counts equal (order (text (take stride (drop at r))) (text key))
+    → sum ≡ n + tallied equal key (chunks stride left (drop at r)) → sum ≡ n + k + tallied equal key (chunks stride (left - 1) (drop (at + stride) r))
+unfolding tallied
+tally-next equal key stride left at n k sum r h e q =
+    let rest : ℕ = tallied equal key (chunks stride (left - 1) (drop (at + stride) r)) in
+    let d : tallied equal key (chunks stride left (drop at r)) ≡ counts equal (order (text (take stride (drop at r))) (text key)) + tallied equal key (chunks stride (left - 1) (drop (at + stride) r)) =
+    ap (tallied equal key) (tables.chunks-next stride left at r h) in
+    q ∙ ap (λ (x : ℕ). n + x) (d ∙ ap (λ (x : ℕ). x + rest) (sym e)) ∙ omega arith
+
+pub tally-end : (equal : Bool) (key : List ℕ) (stride left at n sum : ℕ) (r : List ℕ) → left ≤ 0 → sum ≡ n + tallied equal key (chunks stride left (drop at r)) → n ≡ sum
+unfolding tallied chunks
+tally-end equal key stride zero at n sum r h e = sym (e ∙ add-zero n)
+tally-end equal key stride (suc left) at n sum r h e = absurd (not-suc-le-zero h)
+
+pub tallied-in : (equal : Bool) (key w : List ℕ) (n : ℕ) → n ≡ tallied equal key (slotsOf 5940 (take (20002 + 35641 - 20002) (drop 20002 w))) → ReadsSlots (tallied equal key) w n
+tallied-in equal key w n e = record { is = λ t w₀ S. e ∙ ap (tallied equal key) (lent.slots-are 5940 20002 35641 w t (S .sized) (splices.slots-part S)) }
+
+-- ---- where an entry stands
+
+-- its number in the table is below the count
+pub index-below : (r : ResourceId) (w : List ℕ) (n i j : ℕ) → HasState w → Reads (λ s. length (queue r s)) w n → Reads (λ s. below r (s .edits)) w i → j < n → i + j < 6
+unfolding document01
+index-below r w n i j H N I l =
+    let s = H .state in
+    let h = H .keeps in
+    let a = splices.rows-count r h in
+    let b : length (Flat (s .edits)) ≤ 6 = h .fits .edits .small in
+    let c : n ≡ length (queue r s) = N .is s h in
+    let d : i ≡ below r (s .edits) = I .is s h in
+    omega arith
+
+pub not-there : (r : ResourceId) (w : List ℕ) (n j p : ℕ) → Reads (λ s. length (queue r s)) w n → n ≤ j → FindsEntry r j w (Missing p)
+unfolding EntryIs
+not-there r w n j p N l = record {
+  is = λ s h.
+      let c : n ≡ length (queue r s) = N .is s h in
+      lists.nth-none j (queue r s) (omega arith);
+}
+
+module _ {s : SyncState} {w : List ℕ} (r : ResourceId) (h : Keeps s w) (j i p : ℕ) (e : Pending) where
+  pub entry-at : resourceId .Ok r → p ≡ 20002 + (1 + (i + j) * 5940) → i ≡ below r (s .edits) → nth j (queue r s) ≡ some e → j < length (queue r s) → EntryAt r j w s p e
+  entry-at k q d g l =
+      let a = splices.rows-count r h in
+      let S = splices.slots-of h in
+      let u = splices.slot-in (i + j) S (omega arith) in
+      let ok : PendingFits document01 r e = lists.nth-all (PendingFits document01 r) j (queue r s) e (splices.cut-of r h .own) g in
+      let b : take 5940 (drop p w) ≡ Slot r e =
+      ap (λ (n : ℕ). take 5940 (drop n w)) q ∙ u .0 ∙ ap (λ (n : ℕ). getD (Flat (s .edits)) (n + j) []) d ∙ splices.row-of r h j e g l in
+      let f : take 5940 (drop p w) ≡ flat (fields.fields r e) = b ∙ fields.slot-is r e in
+      let z = fields.fields-long r e k ok in
+      let at : (o n : ℕ) → o + n ≤ 5940 → take n (drop (p + o) w) ≡ take n (drop o (flat (fields.fields r e))) =
+      λ o n m. tables.field-of w 5940 p o n m ∙ ap (λ (x : List ℕ). take n (drop o x)) f in
+      record {
+        got = g;
+        fits = ok;
+        room = omega (arith, u .1);
+        slot = b;
+        id = at 33 33 (omega arith) ∙ fields.field-of 1 (fields.fields r e) z (omega arith);
+        operation = at 66 1469 (omega arith) ∙ fields.field-of 2 (fields.fields r e) z (omega arith);
+        role = at 1535 34 (omega arith) ∙ fields.field-of 3 (fields.fields r e) z (omega arith);
+        expires-at = at 1569 9 (omega arith) ∙ fields.field-of 4 (fields.fields r e) z (omega arith);
+        conflicts = at 1578 3072 (omega arith) ∙ fields.field-of 5 (fields.fields r e) z (omega arith);
+        refused = at 4650 1024 (omega arith) ∙ fields.field-of 6 (fields.fields r e) z (omega arith);
+        collided = at 5674 1 (omega arith) ∙ fields.field-of 7 (fields.fields r e) z (omega arith);
+        absorbed = at 5675 265 (omega arith) ∙ fields.field-of 8 (fields.fields r e) z (omega arith);
+      }
+
+pub found : (r : ResourceId) (w : List ℕ) (n i j : ℕ) → resourceId .Ok r → Reads (λ s. length (queue r s)) w n → Reads (λ s. below r (s .edits)) w i → j < n
+    → FindsEntry r j w (Found (20002 + (1 + (i + j) * 5940)))
+unfolding EntryIs
+found r w n i j k N I l = record {
+  is = λ s h.
+      let c : n ≡ length (queue r s) = N .is s h in
+      let g = lists.nth-some j (queue r s) (omega arith) in
+      record { entry = g .0; is = entry-at r h j i (20002 + (1 + (i + j) * 5940)) (g .0) k refl (I .is s h) (g .1) (omega arith) };
+}
