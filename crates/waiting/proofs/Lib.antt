@@ -2,4 +2,5 @@ pub mod Cuts
 pub mod Lists
 pub mod Fields
 pub mod Splices
+pub mod Writes
 pub mod Laws

@@ -4,7 +4,7 @@ use native.Mathlib.Nat.{add-zero, mul-le-mul-right, suc-mul, zero-mul}
 use native.Mathlib.Omega.{arith}
 use mathlib.Core.Path.{_≡_, refl, sym, ap, ap₂, _∙_, subst}
 use mathlib.Core.List.{List, [], _∷_, _++_, append-assoc, append-nil}
-use mathlib.Core.Option.{Option, none, some}
+use mathlib.Core.Option.{Option, none, some, Option·some-injective}
 use mathlib.Core.Bool.{Bool, true, false}
 use lib.ListN.{length, take, drop, getD, set, length-append, length-set, length-take, length-drop, length-replicate}
 use lib.Seq.{getD-take, getD-drop, set-split, split-at, set-set, getD-set-same, set-at, getD-at, length-take-le}
@@ -19,6 +19,7 @@ use Rattle.model.specs.State.{Map, Pending, Queue, SyncState}
 use Rattle.model.specs.Limits.{document01}
 use Rattle.model.specs.Maps.{map}
 use Rattle.model.specs.Formats.{resourceId}
+use Rattle.model.proofs.Fitting.{all-append}
 use Rattle.state.specs.Layout.{padded, edit-slots}
 use Rattle.state.specs.Fits.{PendingFits, Fits}
 use Rattle.state.specs.Setters.{with-edits}
@@ -34,7 +35,7 @@ use Rattle.waiting.proofs.Lists as lists
 
 -- ---- the slots of a buffer
 
-few-long : (t : Table) → Sized 5940 t → length t ≤ 6 → length (flat t) + 1 ≤ 35641
+pub few-long : (t : Table) → Sized 5940 t → length t ≤ 6 → length (flat t) + 1 ≤ 35641
 few-long t z h =
     let a : length (flat t) ≡ length t * 5940 = tables.sized-length 5940 t z in
     let b : length t * 5940 ≤ 6 * 5940 = mul-le-mul-right 5940 h in
@@ -68,7 +69,7 @@ slots-of {s} {w} h =
 pub has-slots : {w : List ℕ} → HasState w → HasSlots w
 has-slots {w} H = record { t = Flat (H .state .edits); w₀ = w; slots = slots-of (H .keeps) }
 
-pub slots-tab : {t : Table} {w₀ w : List ℕ} → Slots t w₀ w → Lent 5940 20002 35641 w
+abbrev pub slots-tab : {t : Table} {w₀ w : List ℕ} → Slots t w₀ w → Lent 5940 20002 35641 w
 slots-tab {t} {w₀} {w} S =
     let l = S .long in
     let n : length (part 20002 35641 w) ≡ 35641 = tables.part-length w 20002 35641 (omega arith) in
@@ -78,7 +79,7 @@ slots-tab {t} {w₀} {w} S =
       inside = omega arith;
     }
 
-pub has-lent : {w : List ℕ} → HasSlots w → Lent 5940 20002 35641 w
+abbrev pub has-lent : {w : List ℕ} → HasSlots w → Lent 5940 20002 35641 w
 has-lent H = slots-tab (H .slots)
 
 -- other slots written over those of w
@@ -149,3 +150,58 @@ module _ {s : SyncState} {w : List ℕ} (r : ResourceId) (h : Keeps s w) where
       let q : Queue = queue r s in
       let n : length (Rows r q) ≡ length q = length-rows (Slot r) q in
       ap₂ (λ (t : Table) (i : ℕ). getD t (i + j) []) (C .is) (sym (C .first)) ∙ lists.at-mid (C .pre) (Rows r q) (C .post) j [] (omega arith) ∙ lists.nth-row (Slot r) j q p e
+
+-- ---- what is done to a queue
+
+all-change : (P : Pending → Type 0) (g : Pending → Pending) (j : ℕ) (q : Queue) (p : Pending) → nth j q ≡ some p → P (g p) → All P q → All P (change-at j g q)
+unfolding nth change-at
+all-change P g j [] p e f a = tt
+all-change P g zero (x ∷ q) p e f a = (subst (λ (y : Pending). P (g y)) (sym (Option·some-injective x p e)) f, a .1)
+all-change P g (suc j) (x ∷ q) p e f a = (a .0, all-change P g j q p e f (a .1))
+
+all-take : {A : Type 0} (P : A → Type 0) (j : ℕ) (q : List A) → All P q → All P (take j q)
+all-take P zero q a = tt
+all-take P (suc j) [] a = tt
+all-take P (suc j) (x ∷ q) a = (a .0, all-take P j q (a .1))
+
+all-drop : {A : Type 0} (P : A → Type 0) (j : ℕ) (q : List A) → All P q → All P (drop j q)
+all-drop P zero q a = a
+all-drop P (suc j) [] a = tt
+all-drop P (suc j) (x ∷ q) a = all-drop P j q (a .1)
+
+module _ {s : SyncState} {w : List ℕ} (r : ResourceId) (k : resourceId .Ok r) (h : Keeps s w) (w′ : List ℕ) where
+  pub kept : (q : Queue) → q ≡ queue r s → Keeps (put-queue r q s) w
+  kept q e = subst (λ (x : Queue). Keeps (put-queue r x s) w) (sym e) (spliced r (queue r s) (Flat (s .edits)) w h k (cut-of r h .own) (cut-of r h .is) (slots-of h))
+
+  pub removed : (j : ℕ) → j < length (queue r s) → Slots (without-slot (below r (s .edits) + j) (Flat (s .edits))) w w′ → Keeps (put-queue r (without j (queue r s)) s) w′
+  unfolding without without-slot
+  removed j l S =
+      let C = cut-of r h in
+      let q : Queue = queue r s in
+      let n : length (Rows r q) ≡ length q = length-rows (Slot r) q in
+      let P : Pending → Type 0 = PendingFits document01 r in
+      spliced r (without j q) (without-slot (below r (s .edits) + j) (Flat (s .edits))) w′ h k (all-append P (take j q) (drop (suc j) q) (all-take P j q (C .own)) (all-drop P (suc j) q (C .own)))
+      (ap₂ (λ (t : Table) (i : ℕ). take (i + j) t ++ drop (suc (i + j)) t) (C .is) (sym (C .first)) ∙ lists.out-of (C .pre) (Rows r q) (C .post) j (omega arith)
+      ∙ ap (λ (t : Table). C .pre ++ (t ++ C .post)) (sym (lists.map-without (Slot r) j q))) S
+
+  pub changed : (j : ℕ) (g : Pending → Pending) (p : Pending) → nth j (queue r s) ≡ some p → j < length (queue r s) → PendingFits document01 r (g p)
+      → Slots (set (Flat (s .edits)) (below r (s .edits) + j) (Slot r (g p))) w w′ → Keeps (put-queue r (change-at j g (queue r s)) s) w′
+  changed j g p e l f S =
+      let C = cut-of r h in
+      let q : Queue = queue r s in
+      let n : length (Rows r q) ≡ length q = length-rows (Slot r) q in
+      spliced r (change-at j g q) (set (Flat (s .edits)) (below r (s .edits) + j) (Slot r (g p))) w′ h k (all-change (PendingFits document01 r) g j q p e f (C .own))
+      (ap₂ (λ (t : Table) (i : ℕ). set t (i + j) (Slot r (g p))) (C .is) (sym (C .first)) ∙ lists.set-in (C .pre) (Rows r q) (C .post) j (Slot r (g p)) (omega arith)
+      ∙ ap (λ (t : Table). C .pre ++ (t ++ C .post)) (sym (lists.map-change (Slot r) g j q p e))) S
+
+  pub appended : (p : Pending) → PendingFits document01 r p → Slots (inserted (below r (s .edits) + length (queue r s)) (Slot r p) (Flat (s .edits))) w w′
+      → Keeps (put-queue r (queue r s ++ p ∷ []) s) w′
+  unfolding map
+  appended p f S =
+      let C = cut-of r h in
+      let q : Queue = queue r s in
+      let n : length q ≡ length (Rows r q) = sym (length-rows (Slot r) q) in
+      spliced r (q ++ p ∷ []) (inserted (below r (s .edits) + length q) (Slot r p) (Flat (s .edits))) w′ h k (all-append (PendingFits document01 r) q (p ∷ []) (C .own) (f, tt))
+      (ap (λ (t : Table). inserted (below r (s .edits) + length q) (Slot r p) t) (C .is) ∙ ap₂ (λ (i m : ℕ). inserted (i + m) (Slot r p) (C .pre ++ (Rows r q ++ C .post))) (sym (C .first)) n
+      ∙ lists.behind (C .pre) (Rows r q) (C .post) (Slot r p)
+      ∙ ap (λ (t : Table). C .pre ++ (t ++ C .post)) (sym (lists.map-append (Slot r) q (p ∷ [])))) S
