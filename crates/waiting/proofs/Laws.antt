@@ -3,35 +3,41 @@ use Prim.Native.Nat.{ℕ, zero, suc, _+_, _-_, _*_, _≤_, _<_}
 use native.Mathlib.Nat.{add-zero, zero-add, not-suc-le-zero, mul-le-mul-right, suc-mul}
 use native.Mathlib.Omega.{arith}
 use mathlib.Core.Path.{_≡_, refl, sym, ap, ap₂, _∙_, subst}
-use mathlib.Core.List.{List, [], _∷_, _++_}
+use mathlib.Core.List.{List, [], _∷_, _++_, append-nil}
 use mathlib.Core.Option.{Option, none, some}
 use mathlib.Core.Bool.{Bool, true, false}
-use lib.ListN.{length, take, drop, getD, set}
+use lib.ListN.{length, take, drop, getD, set, drop-of-length-le}
+use lib.Seq.{take-all}
 use Rattle.format.specs.Format.{All, option, list, stamp, bool}
 use Rattle.spans.specs.Compare.{order}
 use Rattle.spans.specs.declared.Order.{Order}
 use Rattle.spans.specs.declared.Order.the-variants.{Less, Equal, Greater}
 use Rattle.tables.specs.Table.{Table, flat, Sized, encTable, chunks, slotsOf, text, Lens, offset}
+use Rattle.tables.specs.Table.{without as without-slot}
 use Rattle.tables.specs.declared.Place.{Place}
 use Rattle.tables.specs.declared.Place.the-variants.{Found, Missing}
 use Rattle.tables.proofs.Laws as tables
 use Rattle.lent.specs.Lent.{part, placed}
 use Rattle.lent.proofs.Laws as lent
 use Rattle.model.specs.Seam.{ResourceId}
+use Rattle.model.specs.Parts.{Conflict, Refused}
 use Rattle.model.specs.State.{Pending, Queue, SyncState}
 use Rattle.model.specs.Limits.{document01}
-use Rattle.model.specs.Formats.{resourceId}
+use Rattle.model.specs.Formats.{resourceId, conflictsF, refusalsF}
+use Rattle.model.specs.Sync.{as-collided, without-plan, change-front}
+use Rattle.model.proofs.FitQueues.{no-conflicts, no-refusals}
 use Rattle.state.specs.Layout.{padded}
 use Rattle.state.specs.Fits.{PendingFits}
 use Rattle.state.specs.Contract.{state-length, Keeps, HasState, Reads, Edits, Tries}
 use Rattle.state.specs.Values.{name-of, Named}
-use Rattle.waiting.specs.Queues.{below, queue, put-queue, nth}
-use Rattle.waiting.specs.Slots.{Slots, HasSlots, ReadsSlots, EditsSlots, counts, tallied, rewritten, inserted}
-use Rattle.waiting.specs.Entries.{EntryAt, EntryIs, FindsEntry}
+use Rattle.waiting.specs.Queues.{below, queue, put-queue, nth, without, change-at, planned}
+use Rattle.waiting.specs.Slots.{Slots, HasSlots, ReadsSlots, EditsSlots, Rewrites, Opens, counts, tallied, rewritten, inserted}
+use Rattle.waiting.specs.Entries.{EntryAt, EntryIs, FindsEntry, PlanBytes}
 use Rattle.waiting.proofs.Cuts.{Slot, Rows, Flat, Cut}
 use Rattle.waiting.proofs.Lists as lists
 use Rattle.waiting.proofs.Fields as fields
 use Rattle.waiting.proofs.Splices as splices
+use Rattle.waiting.proofs.Writes as writes
 
 -- ---- counting slots
 
@@ -136,3 +142,97 @@ found r w n i j k N I l = record {
       let g = lists.nth-some j (queue r s) (omega arith) in
       record { entry = g .0; is = entry-at r h j i (20002 + (1 + (i + j) * 5940)) (g .0) k refl (I .is s h) (g .1) (omega arith) };
 }
+
+-- ---- changes of a queue
+
+pub index-count : (r : ResourceId) (w : List ℕ) (n i j : ℕ) → HasState w → Reads (λ s. length (queue r s)) w n → Reads (λ s. below r (s .edits)) w i → j < n → i + j < getD w 20002 0
+index-count r w n i j H N I l =
+    let s = H .state in
+    let h = H .keeps in
+    let a = splices.rows-count r h in
+    let b : getD w 20002 0 ≡ length (Flat (s .edits)) = splices.slots-of h .count in
+    let c : n ≡ length (queue r s) = N .is s h in
+    let d : i ≡ below r (s .edits) = I .is s h in
+    omega arith
+
+pub removes-none : (r : ResourceId) (w : List ℕ) (n j : ℕ) → resourceId .Ok r → Reads (λ s. length (queue r s)) w n → n ≤ j → Edits (λ s. put-queue r (without j (queue r s)) s) w w
+unfolding without
+removes-none r w n j k N l = record {
+  makes = λ s h.
+      let q : Queue = queue r s in
+      let c : n ≡ length (queue r s) = N .is s h in
+      splices.kept r k h w (without j q) (ap₂ (λ (x y : Queue). x ++ y) (take-all j q (omega arith)) (drop-of-length-le q {i = suc j} (omega arith)) ∙ append-nil q);
+}
+
+pub removes : (r : ResourceId) (w w′ : List ℕ) (n i j : ℕ) → resourceId .Ok r → HasState w → Reads (λ s. length (queue r s)) w n → Reads (λ s. below r (s .edits)) w i → j < n
+    → ((t : Table) → Sized 5940 t → part 20002 35641 w ≡ encTable 35641 t → w′ ≡ placed 20002 35641 (encTable 35641 (without-slot (i + j) t)) w)
+    → Edits (λ s. put-queue r (without j (queue r s)) s) w w′
+removes r w w′ n i j k H N I l g = record {
+  makes = λ s h.
+      let c : n ≡ length (queue r s) = N .is s h in
+      splices.removed r k h w′ j (omega arith) (subst (λ (x : ℕ). Slots (without-slot (x + j) (Flat (s .edits))) w w′) (I .is s h)
+      (writes.taken-out (i + j) w w′ (index-count r w n i j H N I l) g .makes (Flat (s .edits)) w (splices.slots-of h)));
+}
+
+-- entry j is changed where its slot is: F of the bytes is g of the entry
+pub changes : (r : ResourceId) (w w′ : List ℕ) (n i j at : ℕ) (g : Pending → Pending) (F : List ℕ → List ℕ) → resourceId .Ok r → Reads (λ s. length (queue r s)) w n → Reads (λ s. below r (s .edits)) w i
+    → j < n → at ≡ i + j → ((p : Pending) → PendingFits document01 r p → PendingFits document01 r (g p) × (F (Slot r p) ≡ Slot r (g p)))
+    → EditsSlots (λ t. set t at (F (getD t at []))) w w′ → Edits (λ s. put-queue r (change-at j g (queue r s)) s) w w′
+changes r w w′ n i j at g F k N I l e f E = record {
+  makes = λ s h.
+      let c : n ≡ length (queue r s) = N .is s h in
+      let x = lists.nth-some j (queue r s) (omega arith) in
+      let p : Pending = x .0 in
+      let t : Table = Flat (s .edits) in
+      let ok : PendingFits document01 r p = lists.nth-all (PendingFits document01 r) j (queue r s) p (splices.cut-of r h .own) (x .1) in
+      let a : at ≡ below r (s .edits) + j = e ∙ ap (λ (m : ℕ). m + j) (I .is s h) in
+      let y : F (getD t at []) ≡ Slot r (g p) = ap F (ap (λ (m : ℕ). getD t m []) a ∙ splices.row-of r h j p (x .1) (omega arith)) ∙ f p ok .1 in
+      splices.changed r k h w′ j g p (x .1) (omega arith) (f p ok .0)
+      (subst (λ (u : Table). Slots u w w′) (ap₂ (λ (m : ℕ) (z : List ℕ). set t m z) a y) (E .makes t w (splices.slots-of h)));
+}
+
+-- the head
+front-is : (g : Pending → Pending) (q : Queue) → change-at 0 g q ≡ change-front g q
+unfolding change-at change-front
+front-is g [] = refl
+front-is g (p ∷ q) = refl
+
+front-edits : (r : ResourceId) (g : Pending → Pending) (w w′ : List ℕ) → Edits (λ s. put-queue r (change-at 0 g (queue r s)) s) w w′ → Edits (λ s. put-queue r (change-front g (queue r s)) s) w w′
+front-edits r g w w′ E = record { makes = λ s h. subst (λ (q : Queue). Keeps (put-queue r q s) w′) (front-is g (queue r s)) (E .makes s h) }
+
+empty-front : (g : Pending → Pending) (q : Queue) → length q ≡ 0 → change-front g q ≡ q
+unfolding change-front
+empty-front g [] e = refl
+empty-front g (p ∷ q) e = absurd (omega arith)
+
+pub front-none : (r : ResourceId) (g : Pending → Pending) (w : List ℕ) (n : ℕ) → resourceId .Ok r → Reads (λ s. length (queue r s)) w n → n ≡ 0 → Edits (λ s. put-queue r (change-front g (queue r s)) s) w w
+front-none r g w n k N l = record { makes = λ s h. splices.kept r k h w (change-front g (queue r s)) (empty-front g (queue r s) (sym (N .is s h) ∙ l)) }
+
+pub front-changes : (r : ResourceId) (w w′ : List ℕ) (n i : ℕ) (g : Pending → Pending) (F : List ℕ → List ℕ) → resourceId .Ok r → Reads (λ s. length (queue r s)) w n → Reads (λ s. below r (s .edits)) w i
+    → 0 < n → ((p : Pending) → PendingFits document01 r p → PendingFits document01 r (g p) × (F (Slot r p) ≡ Slot r (g p)))
+    → EditsSlots (λ t. set t i (F (getD t i []))) w w′ → Edits (λ s. put-queue r (change-front g (queue r s)) s) w w′
+front-changes r w w′ n i g F k N I l f E = front-edits r g w w′ (changes r w w′ n i 0 i g F k N I l (sym (add-zero i)) f E)
+
+pub front-count : (r : ResourceId) (w : List ℕ) (n i : ℕ) → HasState w → Reads (λ s. length (queue r s)) w n → Reads (λ s. below r (s .edits)) w i → 0 < n → i < getD w 20002 0
+front-count r w n i H N I l = let a = index-count r w n i 0 H N I l in omega arith
+
+pub collides : (r : ResourceId) (w w′ : List ℕ) (n i : ℕ) → resourceId .Ok r → Reads (λ s. length (queue r s)) w n → Reads (λ s. below r (s .edits)) w i → 0 < n
+    → Rewrites i 5674 1 (1 ∷ []) w w′ → Edits (λ s. put-queue r (change-front as-collided (queue r s)) s) w w′
+collides r w w′ n i k N I l R =
+    front-changes r w w′ n i as-collided (placed 5674 1 (padded 1 (1 ∷ []))) k N I l (λ p ok. (fields.collided-fits r p k ok, fields.collided-put r p k ok)) (R .edits)
+
+pub plans : (r : ResourceId) (w w1 w2 b d : List ℕ) (n i : ℕ) → resourceId .Ok r → HasState w → Reads (λ s. length (queue r s)) w n → Reads (λ s. below r (s .edits)) w i → 0 < n
+    → length b ≤ 3072 → length d ≤ 1024 → Rewrites i 1578 3072 b w w1 → Rewrites i 4650 1024 d w1 w2
+    → (cs : List Conflict) (rs : List Refused) → PlanBytes cs rs b d → Edits (λ s. put-queue r (change-front (planned cs rs) (queue r s)) s) w w2
+plans r w w1 w2 b d n i k H N I l m o R Q cs rs B =
+    front-changes r w w2 n i (planned cs rs) (λ x. placed 4650 1024 (padded 1024 d) (placed 1578 3072 (padded 3072 b) x)) k N I l
+    (λ p ok. (
+      fields.planned-fits r p k ok cs rs (B .conflicts-ok) (subst (λ (x : List ℕ). length x ≤ 3072) (B .conflicts-is) m) (B .refused-ok) (subst (λ (x : List ℕ). length x ≤ 1024) (B .refused-is) o),
+      fields.planned-put r p k ok cs rs b d B m,
+    ))
+    (writes.field-more i 4650 1024 d (placed 1578 3072 (padded 3072 b)) (front-count r w n i H N I l) (R .edits) Q)
+
+pub unplans : (r : ResourceId) (w w′ : List ℕ) → ((cs : List Conflict) (rs : List Refused) → PlanBytes cs rs (0 ∷ []) (0 ∷ []) → Edits (λ s. put-queue r (change-front (planned cs rs) (queue r s)) s) w w′)
+    → Edits (λ s. put-queue r (change-front without-plan (queue r s)) s) w w′
+unfolding planned without-plan conflictsF refusalsF list
+unplans r w w′ g = g [] [] (record { conflicts-ok = no-conflicts; conflicts-is = refl; refused-ok = no-refusals; refused-is = refl })

@@ -5,7 +5,7 @@ use native.Mathlib.Omega.{arith}
 use mathlib.Core.Path.{_≡_, refl, sym, ap, ap₂, _∙_, subst}
 use mathlib.Core.List.{List, [], _∷_, _++_, append-assoc}
 use lib.ListN.{length, take, drop, getD, set, length-append, length-set, length-take, length-drop, length-replicate, replicate-append-replicate, take-append-drop}
-use lib.Seq.{set-split, split-at, length-take-le, take-at, drop-at, drop-drop, drop-append-le}
+use lib.Seq.{getD-set-same, set-set, set-split, split-at, length-take-le, take-at, drop-at, drop-drop, drop-append-le}
 use Rattle.spans.specs.Bytes.{zeros}
 use Rattle.tables.specs.Table.{Table, flat, Sized, encTable, opened}
 use Rattle.tables.specs.Table.{without as without-slot}
@@ -14,7 +14,7 @@ use Rattle.lent.specs.Lent.{part, placed}
 use Rattle.lent.proofs.Laws as lent
 use Rattle.state.specs.Layout.{padded}
 use Rattle.state.proofs.Padded.{length-padded}
-use Rattle.waiting.specs.Slots.{Slots, HasSlots, EditsSlots, rewritten, inserted}
+use Rattle.waiting.specs.Slots.{Slots, HasSlots, EditsSlots, rewritten, inserted, Rewrites, Opens}
 use Rattle.waiting.proofs.Lists as lists
 use Rattle.waiting.proofs.Splices as splices
 
@@ -151,3 +151,62 @@ taken-out i w w′ h g = record {
       splices.slots-next (without-slot i t) w′ S (tables.sized-join 5940 (take i t) (drop (suc i) t) (sized-take i t (S .sized)) (sized-drop (suc i) t (S .sized))) (omega arith)
       (g t (S .sized) (splices.slots-part S));
 }
+
+-- ---- the same, with what the next write asks for
+
+pub has-next : {f : Table → Table} {w w′ : List ℕ} → HasSlots w → EditsSlots f w w′ → HasSlots w′
+has-next {f} H E = record { t = f (H .t); w₀ = H .w₀; slots = E .makes (H .t) (H .w₀) (H .slots) }
+
+pub rewrites : (i o width : ℕ) (b w w′ : List ℕ) → HasSlots w → i < getD w 20002 0 → o + width ≤ 5940 → length b ≤ width → w′ ≡ placed (20002 + (1 + i * 5940) + o) width (padded width b) w
+    → Rewrites i o width b w w′
+rewrites i o width b w w′ H h k m e =
+    let E = rewrote i o width b w w′ h k m e in
+    record {
+      edits = E;
+      has = has-next H E;
+      count = E .makes (H .t) (H .w₀) (H .slots) .count ∙ length-set (H .t) i _ ∙ sym (H .slots .count);
+    }
+
+pub opens : (i : ℕ) (w w′ y : List ℕ) → HasSlots w → i ≤ getD w 20002 0 → getD w 20002 0 < 6 → y ≡ opened 5940 (1 + i * 5940) (take (20002 + 35641 - 20002) (drop 20002 w))
+    → w′ ≡ take 20002 w ++ (y ++ drop (20002 + 35641 - 20002) (drop 20002 w)) → Opens i w w′
+opens i w w′ y H h k e q =
+    let E = opened-slot i w w′ y h k e q in
+    let t : Table = H .t in
+    let c : getD w 20002 0 ≡ length t = H .slots .count in
+    let d : getD w′ 20002 0 ≡ length (inserted i (zeros 5940) t) = E .makes t (H .w₀) (H .slots) .count in
+    let n : length (inserted i (zeros 5940) t) ≡ length (take i t) + suc (length (drop i t)) = length-append (take i t) (zeros 5940 ∷ drop i t) in
+    let l : length (take i t) ≡ i = length-take-le i t (omega arith) in
+    let g : length (drop i t) ≡ length t - i = length-drop i t in
+    record { edits = E; has = has-next H E; count = omega arith }
+
+-- a slot is at most the sixth
+pub slot-room : {w : List ℕ} (H : HasSlots w) (i : ℕ) → i < getD w 20002 0 → (i < 6) × (length w ≡ 58543)
+slot-room H i h =
+    let c = H .slots .count in
+    let f = H .slots .few in
+    (omega arith, H .slots .long)
+
+pub slots-long : {w : List ℕ} (H : HasSlots w) → length w ≡ 58543
+slots-long H = H .slots .long
+
+-- two writes to one slot
+pub rewrite-more : (i o width : ℕ) (b x : List ℕ) (t : Table) → i < length t → rewritten i o width b (set t i x) ≡ set t i (placed o width (padded width b) x)
+rewrite-more i o width b x t h =
+    ap (λ (y : List ℕ). set (set t i x) i (placed o width (padded width b) y)) (getD-set-same t i x [] h) ∙ set-set t i x (placed o width (padded width b) x)
+
+-- a write more to the slot that was written before
+pub field-more : {w w′ w″ : List ℕ} (i o width : ℕ) (b : List ℕ) (F : List ℕ → List ℕ) → i < getD w 20002 0 → EditsSlots (λ t. set t i (F (getD t i []))) w w′ → Rewrites i o width b w′ w″
+    → EditsSlots (λ t. set t i (placed o width (padded width b) (F (getD t i [])))) w w″
+field-more {w} {w′} {w″} i o width b F h E R = record {
+  makes = λ t w₀ S.
+      let c = S .count in
+      let l : i < length t = omega arith in
+      subst (λ (u : Table). Slots u w₀ w″) (rewrite-more i o width b (F (getD t i [])) t l) (R .edits .makes (set t i (F (getD t i []))) w₀ (E .makes t w₀ S));
+}
+
+-- the table's part, as its own functions have it
+pub part-long : {w : List ℕ} (H : HasSlots w) → length (take (20002 + 35641 - 20002) (drop 20002 w)) ≡ 35641
+part-long {w} H = let l = H .slots .long in tables.part-length w 20002 35641 (omega arith)
+
+pub part-count : {w : List ℕ} (H : HasSlots w) → getD (take (20002 + 35641 - 20002) (drop 20002 w)) 0 0 ≡ getD w 20002 0
+part-count {w} H = ap (λ (x : List ℕ). getD x 0 0) (splices.slots-part (H .slots)) ∙ tables.count-enc 35641 (H .t) ∙ sym (H .slots .count)

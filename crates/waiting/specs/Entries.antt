@@ -8,6 +8,7 @@ use Rattle.format.specs.Format.{option, list, stamp, bool}
 use Rattle.tables.specs.declared.Place.{Place}
 use Rattle.tables.specs.declared.Place.the-variants.{Found, Missing}
 use Rattle.model.specs.Seam.{ResourceId}
+use Rattle.model.specs.Parts.{Conflict, Refused}
 use Rattle.model.specs.State.{Pending, SyncState}
 use Rattle.model.specs.Limits.{document01}
 use Rattle.model.specs.Formats.{shortText, operationF, roleF, conflictsF, refusalsF}
@@ -41,3 +42,10 @@ EntryIs r j w s (Missing p) = nth j (queue r s) ≡ none
 
 pub record FindsEntry (r : ResourceId) (j : ℕ) (w : List ℕ) (place : Place) : Type 0 where
   pub is : (s : SyncState) → Keeps s w → EntryIs r j w s place
+
+-- the bytes of a merge's reports
+pub record PlanBytes (cs : List Conflict) (rs : List Refused) (conflicts refused : List ℕ) : Type 0 where
+  pub conflicts-ok : conflictsF .Ok cs
+  pub conflicts-is : conflicts ≡ conflictsF .enc cs
+  pub refused-ok : refusalsF .Ok rs
+  pub refused-is : refused ≡ refusalsF .enc rs

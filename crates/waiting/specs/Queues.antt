@@ -5,6 +5,7 @@ use mathlib.Core.Option.{Option, none, some}
 use mathlib.Core.Bool.{Bool, true}
 use lib.ListN.{length, take, drop}
 use Rattle.model.specs.Seam.{ResourceId}
+use Rattle.model.specs.Parts.{Conflict, Refused}
 use Rattle.model.specs.State.{Map, Pending, Queue, SyncState}
 use Rattle.model.specs.Maps.{by, by-name, get, insert, remove, map, values}
 use Rattle.model.specs.Machine.{match_none:_some:_, sum}
@@ -54,6 +55,10 @@ unfoldable pub change-at : ℕ → (Pending → Pending) → Queue → Queue
 change-at j f [] = []
 change-at zero f (p ∷ q) = f p ∷ q
 change-at (suc j) f (p ∷ q) = p ∷ change-at j f q
+
+-- the entry with a merge's reports: the model's `with-plan` and `without-plan`
+unfoldable pub planned : List Conflict → List Refused → Pending → Pending
+planned conflicts refused p = record { edit = p .edit; conflicts = conflicts; refused = refused; collided = p .collided; absorbed = p .absorbed }
 
 -- the entry under another name
 unfoldable pub renamed : ResourceId → Pending → Pending

@@ -8,6 +8,7 @@ use Rattle.spans.specs.Compare.{order}
 use Rattle.spans.specs.declared.Order.{Order}
 use Rattle.spans.specs.declared.Order.the-variants.{Less, Equal, Greater}
 use Rattle.tables.specs.Table.{Table, Sized, encTable, text}
+use Rattle.spans.specs.Bytes.{zeros}
 use Rattle.lent.specs.Lent.{placed}
 use Rattle.state.specs.Layout.{padded}
 use Rattle.state.specs.Contract.{state-length}
@@ -59,3 +60,15 @@ rewritten i o width b t = set t i (placed o width (padded width b) (getD t i [])
 -- slot x before slot i
 abbrev pub inserted : ℕ → List ℕ → Table → Table
 inserted i x t = take i t ++ (x ∷ drop i t)
+
+-- what the functions below the queues do: the buffer still has slots, so that the next may follow
+
+pub record Rewrites (i o width : ℕ) (b w w′ : List ℕ) : Type 0 where
+  pub edits : EditsSlots (rewritten i o width b) w w′
+  pub has : HasSlots w′
+  pub count : getD w′ 20002 0 ≡ getD w 20002 0
+
+pub record Opens (i : ℕ) (w w′ : List ℕ) : Type 0 where
+  pub edits : EditsSlots (inserted i (zeros 5940)) w w′
+  pub has : HasSlots w′
+  pub count : getD w′ 20002 0 ≡ getD w 20002 0 + 1

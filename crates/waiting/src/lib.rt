@@ -12,9 +12,12 @@ ghost use Rattle.lent.specs.Lent.{placed};
 ghost use Rattle.state.specs.Layout.{padded};
 ghost use Rattle.state.specs.Contract.{HasState, Reads, Edits, Tries};
 ghost use Rattle.state.specs.Values.{name-of, Named};
-ghost use Rattle.waiting.specs.Queues.{below, queue, put-queue, all-entries, without, change-at};
-ghost use Rattle.waiting.specs.Slots.{HasSlots, ReadsSlots, EditsSlots, counts, tallied, rewritten, inserted};
-ghost use Rattle.waiting.specs.Entries.{FindsEntry};
+ghost use mathlib.Core.List.{List};
+ghost use Rattle.model.specs.Parts.{Conflict, Refused};
+ghost use Rattle.model.specs.Sync.{as-collided, without-plan, change-front};
+ghost use Rattle.waiting.specs.Queues.{below, queue, put-queue, all-entries, without, planned};
+ghost use Rattle.waiting.specs.Slots.{HasSlots, ReadsSlots, Rewrites, Opens, counts, tallied};
+ghost use Rattle.waiting.specs.Entries.{FindsEntry, PlanBytes};
 
 const EDITS: usize = 20002;
 
@@ -118,4 +121,92 @@ pub fn find_entry(work: &[u8], name: Name, j: usize) -> Place
     }
     let i = entries_before(work, name) + j;
     Place::Found(EDITS + (1 + i * EDITS_SLOT))
+}
+
+// ---- writing slots
+
+// A value over the `width` bytes at `at`, zeros behind it.
+fn put_field(work: &mut [u8], at: usize, width: usize, bytes: &[u8])
+    requires { ⌜ (at + width ≤ length (now work)) × (length (now bytes) ≤ width) ⌝ }
+    ensures { λ _. ⌜ now (work .exit) ≡ placed at width (padded width (now (bytes .entry))) (now (work .entry)) ⌝ }
+{
+    lent::clear_in(work, at, width);
+    tables::put_slot(work, at, bytes);
+}
+
+// The same at `o` of slot i.
+fn write_field(work: &mut [u8], i: usize, o: usize, width: usize, bytes: &[u8])
+    requires { ⌜ HasSlots (now work) ⌝ }
+    requires { ⌜ (i < getD (now work) 20002 0) × (o + width ≤ 5940) × (length (now bytes) ≤ width) ⌝ }
+    ensures { λ _. ⌜ Rewrites i o width (now (bytes .entry)) (now (work .entry)) (now (work .exit)) ⌝ }
+{
+    let at = EDITS + (1 + i * EDITS_SLOT) + o;
+    put_field(work, at, width, bytes);
+}
+
+// A slot of zeros before slot i.
+fn open_entry(work: &mut [u8], i: usize)
+    requires { ⌜ HasSlots (now work) ⌝ }
+    requires { ⌜ (i ≤ getD (now work) 20002 0) × (getD (now work) 20002 0 < 6) ⌝ }
+    ensures { λ _. ⌜ Opens i (now (work .entry)) (now (work .exit)) ⌝ }
+{
+    let end = EDITS + EDITS_SIZE;
+    let at = 1 + i * EDITS_SLOT;
+    tables::open_slot(&mut work[EDITS..end], EDITS_SLOT, at);
+}
+
+// ---- changing queues
+
+// Takes out the j-th entry of a queue, if it has so many.
+pub fn remove_entry(work: &mut [u8], name: Name, j: usize)
+    requires { ⌜ HasState (now work) ⌝ }
+    requires { ⌜ Named (name .bytes) ⌝ }
+    ensures { λ _. ⌜ Edits (λ s. put-queue (name-of (name .bytes)) (without j (queue (name-of (name .bytes)) s)) s) (now (work .entry)) (now (work .exit)) ⌝ }
+{
+    let n = waiting_count(work, name);
+    if n <= j {
+        return;
+    }
+    let i = entries_before(work, name) + j;
+    lent::take_out_in(work, EDITS, EDITS_SIZE, EDITS_SLOT, i);
+}
+
+// The head of a queue has collided.
+pub fn set_collided(work: &mut [u8], name: Name)
+    requires { ⌜ HasState (now work) ⌝ }
+    requires { ⌜ Named (name .bytes) ⌝ }
+    ensures { λ _. ⌜ Edits (λ s. put-queue (name-of (name .bytes)) (change-front as-collided (queue (name-of (name .bytes)) s)) s) (now (work .entry)) (now (work .exit)) ⌝ }
+{
+    let n = waiting_count(work, name);
+    if n == 0 {
+        return;
+    }
+    let i = entries_before(work, name);
+    let one = [1u8; 1];
+    write_field(work, i, 5674, 1, &one);
+}
+
+// The reports of a merge into the head of a queue.
+pub fn set_plan(work: &mut [u8], name: Name, conflicts: &[u8], refused: &[u8])
+    requires { ⌜ HasState (now work) ⌝ }
+    requires { ⌜ (Named (name .bytes)) × (length (now conflicts) ≤ 3072) × (length (now refused) ≤ 1024) ⌝ }
+    ensures { λ _. ⌜ ((cs : List Conflict) (rs : List Refused) → PlanBytes cs rs (now (conflicts .entry)) (now (refused .entry)) → Edits (λ s. put-queue (name-of (name .bytes)) (change-front (planned cs rs) (queue (name-of (name .bytes)) s)) s) (now (work .entry)) (now (work .exit))) ⌝ }
+{
+    let n = waiting_count(work, name);
+    if n == 0 {
+        return;
+    }
+    let i = entries_before(work, name);
+    write_field(work, i, 1578, 3072, conflicts);
+    write_field(work, i, 4650, 1024, refused);
+}
+
+// The head of a queue without a merge's reports.
+pub fn clear_plan(work: &mut [u8], name: Name)
+    requires { ⌜ HasState (now work) ⌝ }
+    requires { ⌜ Named (name .bytes) ⌝ }
+    ensures { λ _. ⌜ Edits (λ s. put-queue (name-of (name .bytes)) (change-front without-plan (queue (name-of (name .bytes)) s)) s) (now (work .entry)) (now (work .exit)) ⌝ }
+{
+    let none = [0u8; 1];
+    set_plan(work, name, &none, &none);
 }
