@@ -5,7 +5,7 @@ use mathlib.Core.Path.{_≡_, refl, sym, ap, ap₂, _∙_, subst}
 use mathlib.Core.List.{List, [], _∷_, _++_, append-nil}
 use mathlib.Core.Option.{Option, none, some}
 use mathlib.Core.Bool.{Bool, true, false}
-use lib.ListN.{length, take, drop, getD, set}
+use lib.ListN.{length, take, drop, getD, set, length-replicate, replicate-append-replicate}
 use Rattle.format.specs.Format.{All, option, list, stamp, bool, via, below}
 use Rattle.spans.specs.Bytes.{zeros}
 use Rattle.tables.specs.Table.{Table, flat, Lens, offset}
@@ -14,7 +14,8 @@ use Rattle.lent.specs.Lent.{part, placed}
 use Rattle.model.specs.Seam.{ResourceId}
 use Rattle.model.specs.Parts.{Conflict, Refused}
 use Rattle.model.specs.State.{Pending}
-use Rattle.model.specs.Sync.{as-collided}
+use Rattle.model.specs.Edits.{Edit}
+use Rattle.model.specs.Sync.{as-collided, new-pending}
 use Rattle.model.specs.Limits.{document01}
 use Rattle.model.specs.Formats.{resourceId, shortText, operationF, roleF, conflictsF, refusalsF}
 use Rattle.state.specs.Layout.{padded, field, name-slot, pending-slot}
@@ -23,7 +24,8 @@ use Rattle.state.proofs.Widths.{bool-within, text-33, time-within, operation-wi
 use Rattle.state.proofs.Padded.{length-padded, length-field, length-name}
 use Rattle.state.proofs.Regions.{pending-long}
 use Rattle.waiting.specs.Queues.{planned}
-use Rattle.waiting.specs.Entries.{PlanBytes}
+use Rattle.waiting.specs.Slots.{new-fields}
+use Rattle.waiting.specs.Entries.{PlanBytes, EditBytes, IsEdit}
 use Rattle.waiting.proofs.Cuts.{Slot}
 
 abbrev pub widths : List ℕ
@@ -147,3 +149,112 @@ unfolding planned
 planned-put r p k ok cs rs b d B l =
     let m : PendingFits document01 r (planned cs (p .refused) p) = planned-fits r p k ok cs (p .refused) (B .conflicts-ok) (subst (λ (x : List ℕ). length x ≤ 3072) (B .conflicts-is) l) (ok .refused) (ok .refused-bytes) in
     ap (placed 4650 1024 (padded 1024 d)) (conflicts-put r p k ok cs b (B .conflicts-is)) ∙ refused-put r (planned cs (p .refused) p) k m rs d (B .refused-is)
+
+-- ---- a new entry, written over zeros
+
+abbrev zero-fields : List ℕ → Table
+zero-fields [] = []
+zero-fields (n ∷ ns) = zeros n ∷ zero-fields ns
+
+abbrev total : List ℕ → ℕ
+total [] = 0
+total (n ∷ ns) = n + total ns
+
+flat-zeros : (ns : List ℕ) → flat (zero-fields ns) ≡ zeros (total ns)
+flat-zeros [] = refl
+flat-zeros (n ∷ ns) = ap (λ (x : List ℕ). zeros n ++ x) (flat-zeros ns) ∙ replicate-append-replicate n (total ns) 0
+
+zeros-slot : zeros 5940 ≡ flat (zero-fields widths)
+zeros-slot = sym (flat-zeros widths)
+
+z : (n : ℕ) → length (zeros n) ≡ n
+z n = length-replicate {A = ℕ} n 0
+
+-- five fields of their widths over a slot of zeros
+five : (a b c d e : List ℕ) → length a ≡ 33 → length b ≡ 33 → length c ≡ 1469 → length d ≡ 34
+    → placed 1569 9 e (placed 1535 34 d (placed 66 1469 c (placed 33 33 b (placed 0 33 a (zeros 5940)))))
+    ≡ flat (a ∷ b ∷ c ∷ d ∷ e ∷ zeros 3072 ∷ zeros 1024 ∷ zeros 1 ∷ zeros 265 ∷ [])
+five a b c d e l1 l2 l3 l4 =
+    let t0 : Table = zero-fields widths in
+    let t1 : Table = a ∷ zeros 33 ∷ zeros 1469 ∷ zeros 34 ∷ zeros 9 ∷ zeros 3072 ∷ zeros 1024 ∷ zeros 1 ∷ zeros 265 ∷ [] in
+    let t2 : Table = a ∷ b ∷ zeros 1469 ∷ zeros 34 ∷ zeros 9 ∷ zeros 3072 ∷ zeros 1024 ∷ zeros 1 ∷ zeros 265 ∷ [] in
+    let t3 : Table = a ∷ b ∷ c ∷ zeros 34 ∷ zeros 9 ∷ zeros 3072 ∷ zeros 1024 ∷ zeros 1 ∷ zeros 265 ∷ [] in
+    let t4 : Table = a ∷ b ∷ c ∷ d ∷ zeros 9 ∷ zeros 3072 ∷ zeros 1024 ∷ zeros 1 ∷ zeros 265 ∷ [] in
+    ap (λ (x : List ℕ). placed 1569 9 e (placed 1535 34 d (placed 66 1469 c (placed 33 33 b (placed 0 33 a x))))) zeros-slot
+    ∙ ap (λ (x : List ℕ). placed 1569 9 e (placed 1535 34 d (placed 66 1469 c (placed 33 33 b x)))) (field-put 0 t0 a (z 33, (z 33, (z 1469, (z 34, (z 9, (z 3072, (z 1024, (z 1, (z 265, tt))))))))) (omega arith))
+    ∙ ap (λ (x : List ℕ). placed 1569 9 e (placed 1535 34 d (placed 66 1469 c x))) (field-put 1 t1 b (l1, (z 33, (z 1469, (z 34, (z 9, (z 3072, (z 1024, (z 1, (z 265, tt))))))))) (omega arith))
+    ∙ ap (λ (x : List ℕ). placed 1569 9 e (placed 1535 34 d x)) (field-put 2 t2 c (l1, (l2, (z 1469, (z 34, (z 9, (z 3072, (z 1024, (z 1, (z 265, tt))))))))) (omega arith))
+    ∙ ap (λ (x : List ℕ). placed 1569 9 e x) (field-put 3 t3 d (l1, (l2, (l3, (z 34, (z 9, (z 3072, (z 1024, (z 1, (z 265, tt))))))))) (omega arith))
+    ∙ field-put 4 t4 e (l1, (l2, (l3, (l4, (z 9, (z 3072, (z 1024, (z 1, (z 265, tt))))))))) (omega arith)
+
+empty-list : (n : ℕ) → padded (suc n) (0 ∷ []) ≡ zeros (suc n)
+unfolding padded
+empty-list n =
+    let e : suc n - 1 ≡ n = omega arith in
+    ap (λ (k : ℕ). 0 ∷ zeros k) e
+
+no-conflict : field 3072 conflictsF [] ≡ zeros 3072
+unfolding conflictsF list
+no-conflict = empty-list 3071
+
+no-refusal : field 1024 refusalsF [] ≡ zeros 1024
+unfolding refusalsF list
+no-refusal = empty-list 1023
+
+not-collided : field 1 bool false ≡ zeros 1
+unfolding bool via below
+not-collided = empty-list 0
+
+none-absorbed : field 265 (list 8 shortText) [] ≡ zeros 265
+unfolding list
+none-absorbed = empty-list 264
+
+full-name : (r : ResourceId) (b : List ℕ) → b ≡ name-slot r → resourceId .Ok r → padded 33 b ≡ name-slot r
+unfolding padded
+full-name r b e k =
+    let l : length b ≡ 33 = ap length e ∙ length-name r k in
+    let n : 33 - length b ≡ 0 = omega arith in
+    ap (λ (m : ℕ). b ++ zeros m) n ∙ append-nil b ∙ e
+
+pub new-slot : (r : ResourceId) (e : Edit) (b id operation role expiry : List ℕ) → resourceId .Ok r → b ≡ name-slot r → EditBytes e r id operation role expiry
+    → new-fields b id operation role expiry (zeros 5940) ≡ Slot r (new-pending e)
+unfolding new-pending
+new-slot r e b id operation role expiry k n B =
+    let a1 : padded 33 b ≡ name-slot r = full-name r b n k in
+    let a2 : padded 33 id ≡ field 33 shortText (e .id) = ap (padded 33) (B .id-is) in
+    let a3 : padded 1469 operation ≡ field 1469 operationF (e .operation) = ap (padded 1469) (B .operation-is) in
+    let a4 : padded 34 role ≡ field 34 roleF (e .role) = ap (padded 34) (B .role-is) in
+    let a5 : padded 9 expiry ≡ field 9 (option stamp) (e .expires-at) = ap (padded 9) (B .expires-is) in
+    five (padded 33 b) (padded 33 id) (padded 1469 operation) (padded 34 role) (padded 9 expiry)
+    (ap length a1 ∙ length-name r k) (ap length a2 ∙ length-field text-33 (e .id) (B .id-ok)) (ap length a3 ∙ length-field operation-within (e .operation) (B .operation-ok)) (ap length a4 ∙ length-field role-within (e .role) (B .role-ok))
+    ∙ joined a1 a2 a3 a4 a5 (sym no-conflict) (sym no-refusal) (sym not-collided) (sym none-absorbed)
+    ∙ sym (slot-is r (new-pending e))
+  where
+    joined : {a b c d e f g h i a′ b′ c′ d′ e′ f′ g′ h′ i′ : List ℕ} → a ≡ a′ → b ≡ b′ → c ≡ c′ → d ≡ d′ → e ≡ e′ → f ≡ f′ → g ≡ g′ → h ≡ h′ → i ≡ i′
+        → flat (a ∷ b ∷ c ∷ d ∷ e ∷ f ∷ g ∷ h ∷ i ∷ []) ≡ flat (a′ ∷ b′ ∷ c′ ∷ d′ ∷ e′ ∷ f′ ∷ g′ ∷ h′ ∷ i′ ∷ [])
+    joined e1 e2 e3 e4 e5 e6 e7 e8 e9 = cc
+
+pub new-fits : (r : ResourceId) (e : Edit) (id operation role expiry : List ℕ) → EditBytes e r id operation role expiry → PendingFits document01 r (new-pending e)
+unfolding new-pending conflictsF refusalsF list document01
+new-fits r e id operation role expiry B = record {
+  resource-is = B .resource;
+  id = B .id-ok;
+  operation = B .operation-ok;
+  role = B .role-ok;
+  expires-at = B .expires-ok;
+  conflicts = (omega arith, tt);
+  conflict-bytes = omega arith;
+  refused = (omega arith, tt);
+  refused-bytes = omega arith;
+  absorbed = (omega arith, tt);
+}
+
+pub edit-long : (r : ResourceId) (id operation role expiry : List ℕ) → IsEdit r id operation role expiry → (length id ≤ 33) × (length operation ≤ 1469) × (length role ≤ 34) × (length expiry ≤ 9)
+edit-long r id operation role expiry I =
+    let e = I .edit in
+    let B = I .is in (
+      subst (λ (x : List ℕ). length x ≤ 33) (sym (B .id-is)) (text-33 .most (e .id) (B .id-ok)),
+      subst (λ (x : List ℕ). length x ≤ 1469) (sym (B .operation-is)) (operation-within .most (e .operation) (B .operation-ok)),
+      subst (λ (x : List ℕ). length x ≤ 34) (sym (B .role-is)) (role-within .most (e .role) (B .role-ok)),
+      subst (λ (x : List ℕ). length x ≤ 9) (sym (B .expires-is)) (time-within .most (e .expires-at) (B .expires-ok)),
+    )

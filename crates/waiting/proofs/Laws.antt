@@ -6,8 +6,13 @@ use mathlib.Core.Path.{_≡_, refl, sym, ap, ap₂, _∙_, subst}
 use mathlib.Core.List.{List, [], _∷_, _++_, append-nil}
 use mathlib.Core.Option.{Option, none, some}
 use mathlib.Core.Bool.{Bool, true, false}
-use lib.ListN.{length, take, drop, getD, set, drop-of-length-le}
-use lib.Seq.{take-all}
+use lib.ListN.{length, take, drop, getD, set, length-append, drop-of-length-le}
+use lib.Seq.{take-all, set-at, getD-at, length-take-le}
+use lib.Dec.{leb}
+use borrow.Author.Tests.{le-leb, lt-leb}
+use Rattle.spans.specs.Bytes.{zeros}
+use Rattle.state.proofs.Rows.{length-rows}
+use Rattle.model.specs.Maps.{map}
 use Rattle.format.specs.Format.{All, option, list, stamp, bool}
 use Rattle.spans.specs.Compare.{order}
 use Rattle.spans.specs.declared.Order.{Order}
@@ -24,16 +29,17 @@ use Rattle.model.specs.Parts.{Conflict, Refused}
 use Rattle.model.specs.State.{Pending, Queue, SyncState}
 use Rattle.model.specs.Limits.{document01}
 use Rattle.model.specs.Formats.{resourceId, conflictsF, refusalsF}
-use Rattle.model.specs.Sync.{as-collided, without-plan, change-front}
+use Rattle.model.specs.Sync.{as-collided, without-plan, change-front, new-pending}
+use Rattle.model.specs.Edits.{Edit}
 use Rattle.model.proofs.FitQueues.{no-conflicts, no-refusals}
-use Rattle.state.specs.Layout.{padded}
+use Rattle.state.specs.Layout.{padded, name-slot}
 use Rattle.state.specs.Fits.{PendingFits}
 use Rattle.state.specs.Contract.{state-length, Keeps, HasState, Reads, Edits, Tries}
 use Rattle.state.specs.Values.{name-of, Named}
-use Rattle.waiting.specs.Queues.{below, queue, put-queue, nth, without, change-at, planned}
-use Rattle.waiting.specs.Slots.{Slots, HasSlots, ReadsSlots, EditsSlots, Rewrites, Opens, counts, tallied, rewritten, inserted}
-use Rattle.waiting.specs.Entries.{EntryAt, EntryIs, FindsEntry, PlanBytes}
-use Rattle.waiting.proofs.Cuts.{Slot, Rows, Flat, Cut}
+use Rattle.waiting.specs.Queues.{put-in, below, queue, put-queue, all-entries, nth, without, change-at, planned}
+use Rattle.waiting.specs.Slots.{Slots, HasSlots, ReadsSlots, EditsSlots, Rewrites, Opens, counts, tallied, rewritten, inserted, new-fields}
+use Rattle.waiting.specs.Entries.{EntryAt, EntryIs, FindsEntry, PlanBytes, EditBytes}
+use Rattle.waiting.proofs.Cuts.{Slot, Rows, Flat, Cut, flat-count}
 use Rattle.waiting.proofs.Lists as lists
 use Rattle.waiting.proofs.Fields as fields
 use Rattle.waiting.proofs.Splices as splices
@@ -236,3 +242,74 @@ pub unplans : (r : ResourceId) (w w′ : List ℕ) → ((cs : List Conflict) (rs
     → Edits (λ s. put-queue r (change-front without-plan (queue r s)) s) w w′
 unfolding planned without-plan conflictsF refusalsF list
 unplans r w w′ g = g [] [] (record { conflicts-ok = no-conflicts; conflicts-is = refl; refused-ok = no-refusals; refused-is = refl })
+
+-- ---- one entry more
+
+pub end-count : (r : ResourceId) (w : List ℕ) (n i : ℕ) → HasState w → Reads (λ s. length (queue r s)) w n → Reads (λ s. below r (s .edits)) w i → i + n ≤ getD w 20002 0
+end-count r w n i H N I =
+    let s = H .state in
+    let h = H .keeps in
+    let a = splices.rows-count r h in
+    let b : getD w 20002 0 ≡ length (Flat (s .edits)) = splices.slots-of h .count in
+    let c : n ≡ length (queue r s) = N .is s h in
+    let d : i ≡ below r (s .edits) = I .is s h in
+    omega arith
+
+all-count : (w : List ℕ) (n : ℕ) → HasState w → Reads all-entries w n → n ≡ getD w 20002 0
+all-count w n H R = R .is (H .state) (H .keeps) ∙ sym (flat-count (H .state .edits)) ∙ sym (splices.slots-of (H .keeps) .count)
+
+pub room-for : (w : List ℕ) (n : ℕ) → HasState w → Reads all-entries w n → n < 6 → getD w 20002 0 < 6
+room-for w n H R l = let e = all-count w n H R in omega arith
+
+more-count : {s : SyncState} {w : List ℕ} (r : ResourceId) (p : Pending) → Keeps s w → all-entries (put-queue r (queue r s ++ (p ∷ [])) s) ≡ suc (all-entries s)
+unfolding map
+more-count {s} r p h =
+    let C = splices.cut-of r h in
+    let q : Queue = queue r s in
+    let a : length (C .pre ++ (Rows r (q ++ (p ∷ [])) ++ C .post)) ≡ length (C .pre) + length (Rows r (q ++ (p ∷ [])) ++ C .post) = length-append (C .pre) (Rows r (q ++ (p ∷ [])) ++ C .post) in
+    let b : length (Rows r (q ++ (p ∷ [])) ++ C .post) ≡ length (Rows r (q ++ (p ∷ []))) + length (C .post) = length-append (Rows r (q ++ (p ∷ []))) (C .post) in
+    let d : length (Rows r (q ++ (p ∷ []))) ≡ length (q ++ (p ∷ [])) = length-rows (Slot r) (q ++ (p ∷ [])) in
+    let e : length (q ++ (p ∷ [])) ≡ length q + 1 = length-append q (p ∷ []) in
+    let f = splices.rows-count r h in
+    let g : length (C .pre) ≡ below r (s .edits) = C .first in
+    let i : length (Flat (put-in r (q ++ (p ∷ [])) (s .edits))) ≡ suc (length (Flat (s .edits))) = ap length (C .put (q ++ (p ∷ []))) ∙ omega arith in
+    sym (flat-count (put-in r (q ++ (p ∷ [])) (s .edits))) ∙ i ∙ ap suc (flat-count (s .edits))
+
+pub appends-full : (r : ResourceId) (w : List ℕ) (n : ℕ) → Reads all-entries w n → 6 ≤ n
+    → (p : Pending) → Tries (λ s. leb (all-entries (put-queue r (queue r s ++ (p ∷ [])) s)) 6) (λ s. put-queue r (queue r s ++ (p ∷ [])) s) w false w
+appends-full r w n R l p = record {
+  is = λ s h.
+      let a : n ≡ all-entries s = R .is s h in
+      let b : suc (all-entries s) ≡ all-entries (put-queue r (queue r s ++ (p ∷ [])) s) = sym (more-count r p h) in
+      sym (lt-leb (all-entries (put-queue r (queue r s ++ (p ∷ [])) s)) 6 (omega arith));
+  makes = λ s h y. absurd (tables.false-true y);
+}
+
+inserted-set : (i : ℕ) (x y : List ℕ) (t : Table) → i ≤ length t → set (inserted i x t) i y ≡ inserted i y t
+inserted-set i x y t h = set-at (take i t) x (drop i t) y i (length-take-le i t h)
+
+inserted-at : (i : ℕ) (x : List ℕ) (t : Table) → i ≤ length t → getD (inserted i x t) i [] ≡ x
+inserted-at i x t h = getD-at (take i t) x (drop i t) [] i (length-take-le i t h)
+
+pub appends : (r : ResourceId) (w w1 w2 b id operation role expiry : List ℕ) (a n i : ℕ) → Named b → name-of b ≡ r → HasState w → Reads all-entries w a → a < 6 → Reads (λ s. length (queue r s)) w n → Reads (λ s. below r (s .edits)) w i
+    → Opens (i + n) w w1 → EditsSlots (λ t. set t (i + n) (new-fields b id operation role expiry (getD t (i + n) []))) w1 w2
+    → (e : Edit) → EditBytes e r id operation role expiry
+    → Tries (λ s. leb (all-entries (put-queue r (queue r s ++ (new-pending e ∷ [])) s)) 6) (λ s. put-queue r (queue r s ++ (new-pending e ∷ [])) s) w true w2
+appends r w w1 w2 b id operation role expiry a n i M q H A l N I O F e B = record {
+  is = λ s h.
+      let c : a ≡ all-entries s = A .is s h in
+      let d : suc (all-entries s) ≡ all-entries (put-queue r (queue r s ++ (new-pending e ∷ [])) s) = sym (more-count r (new-pending e) h) in
+      sym (le-leb (all-entries (put-queue r (queue r s ++ (new-pending e ∷ [])) s)) 6 (omega arith));
+  makes = λ s h y.
+      let t : Table = Flat (s .edits) in
+      let k : resourceId .Ok r = subst (resourceId .Ok) q (M .ok) in
+      let c : i + n ≡ below r (s .edits) + length (queue r s) = ap₂ _+_ (I .is s h) (N .is s h) in
+      let d = splices.rows-count r h in
+      let m : i + n ≤ length t = omega arith in
+      let u : Slots (inserted (i + n) (zeros 5940) t) w w1 = O .edits .makes t w (splices.slots-of h) in
+      let v : Slots (set (inserted (i + n) (zeros 5940) t) (i + n) (new-fields b id operation role expiry (getD (inserted (i + n) (zeros 5940) t) (i + n) []))) w w2 = F .makes (inserted (i + n) (zeros 5940) t) w u in
+      let x : new-fields b id operation role expiry (getD (inserted (i + n) (zeros 5940) t) (i + n) []) ≡ Slot r (new-pending e) =
+      ap (new-fields b id operation role expiry) (inserted-at (i + n) (zeros 5940) t m) ∙ fields.new-slot r e b id operation role expiry k (M .is ∙ ap name-slot q) B in
+      splices.appended r k h w2 (new-pending e) (fields.new-fits r e id operation role expiry B)
+      (subst (λ (z : Table). Slots z w w2) (ap (set (inserted (i + n) (zeros 5940) t) (i + n)) x ∙ inserted-set (i + n) (zeros 5940) (Slot r (new-pending e)) t m ∙ ap (λ (z : ℕ). inserted z (Slot r (new-pending e)) t) c) v);
+}

@@ -9,6 +9,7 @@ use Rattle.tables.specs.declared.Place.{Place}
 use Rattle.tables.specs.declared.Place.the-variants.{Found, Missing}
 use Rattle.model.specs.Seam.{ResourceId}
 use Rattle.model.specs.Parts.{Conflict, Refused}
+use Rattle.model.specs.Edits.{Edit}
 use Rattle.model.specs.State.{Pending, SyncState}
 use Rattle.model.specs.Limits.{document01}
 use Rattle.model.specs.Formats.{shortText, operationF, roleF, conflictsF, refusalsF}
@@ -49,3 +50,20 @@ pub record PlanBytes (cs : List Conflict) (rs : List Refused) (conflicts refused
   pub conflicts-is : conflicts ≡ conflictsF .enc cs
   pub refused-ok : refusalsF .Ok rs
   pub refused-is : refused ≡ refusalsF .enc rs
+
+-- the bytes of an edit of r, field by field, each in the frame's form
+pub record EditBytes (e : Edit) (r : ResourceId) (id operation role expiry : List ℕ) : Type 0 where
+  pub resource : e .resource ≡ r
+  pub id-ok : shortText .Ok (e .id)
+  pub id-is : id ≡ shortText .enc (e .id)
+  pub operation-ok : operationF .Ok (e .operation)
+  pub operation-is : operation ≡ operationF .enc (e .operation)
+  pub role-ok : roleF .Ok (e .role)
+  pub role-is : role ≡ roleF .enc (e .role)
+  pub expires-ok : option stamp .Ok (e .expires-at)
+  pub expires-is : expiry ≡ option stamp .enc (e .expires-at)
+
+-- what callers show: the bytes are some edit's
+pub record IsEdit (r : ResourceId) (id operation role expiry : List ℕ) : Type 0 where
+  pub edit : Edit
+  pub is : EditBytes edit r id operation role expiry

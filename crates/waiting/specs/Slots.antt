@@ -57,6 +57,11 @@ tallied equal key (s ∷ t) = counts equal (order (text s) (text key)) + tallied
 abbrev pub rewritten : ℕ → ℕ → ℕ → List ℕ → Table → Table
 rewritten i o width b t = set t i (placed o width (padded width b) (getD t i []))
 
+-- the five fields of a new entry in the place of what stands in a slot
+abbrev pub new-fields : (name id operation role expiry : List ℕ) → List ℕ → List ℕ
+new-fields name id operation role expiry x =
+    placed 1569 9 (padded 9 expiry) (placed 1535 34 (padded 34 role) (placed 66 1469 (padded 1469 operation) (placed 33 33 (padded 33 id) (placed 0 33 (padded 33 name) x))))
+
 -- slot x before slot i
 abbrev pub inserted : ℕ → List ℕ → Table → Table
 inserted i x t = take i t ++ (x ∷ drop i t)
