@@ -313,3 +313,12 @@ appends r w w1 w2 b id operation role expiry a n i M q H A l N I O F e B = recor
       splices.appended r k h w2 (new-pending e) (fields.new-fits r e id operation role expiry B)
       (subst (λ (z : Table). Slots z w w2) (ap (set (inserted (i + n) (zeros 5940) t) (i + n)) x ∙ inserted-set (i + n) (zeros 5940) (Slot r (new-pending e)) t m ∙ ap (λ (z : ℕ). inserted z (Slot r (new-pending e)) t) c) v);
 }
+
+pub fills : (w w1 w2 w3 w4 w5 b id operation role expiry : List ℕ) (i : ℕ) → i < getD w 20002 0 → Rewrites i 0 33 b w w1 → Rewrites i 33 33 id w1 w2 → Rewrites i 66 1469 operation w2 w3
+    → Rewrites i 1535 34 role w3 w4 → Rewrites i 1569 9 expiry w4 w5 → EditsSlots (λ t. set t i (new-fields b id operation role expiry (getD t i []))) w w5
+fills w w1 w2 w3 w4 w5 b id operation role expiry i h R1 R2 R3 R4 R5 =
+    let E1 : EditsSlots (λ t. set t i (placed 0 33 (padded 33 b) (getD t i []))) w w1 = R1 .edits in
+    let E2 = writes.field-more i 33 33 id (placed 0 33 (padded 33 b)) h E1 R2 in
+    let E3 = writes.field-more i 66 1469 operation (λ x. placed 33 33 (padded 33 id) (placed 0 33 (padded 33 b) x)) h E2 R3 in
+    let E4 = writes.field-more i 1535 34 role (λ x. placed 66 1469 (padded 1469 operation) (placed 33 33 (padded 33 id) (placed 0 33 (padded 33 b) x))) h E3 R4 in
+    writes.field-more i 1569 9 expiry (λ x. placed 1535 34 (padded 34 role) (placed 66 1469 (padded 1469 operation) (placed 33 33 (padded 33 id) (placed 0 33 (padded 33 b) x)))) h E4 R5

@@ -14,10 +14,14 @@ ghost use Rattle.state.specs.Contract.{HasState, Reads, Edits, Tries};
 ghost use Rattle.state.specs.Values.{name-of, Named};
 ghost use mathlib.Core.List.{List};
 ghost use Rattle.model.specs.Parts.{Conflict, Refused};
-ghost use Rattle.model.specs.Sync.{as-collided, without-plan, change-front};
+ghost use mathlib.Core.List.{[], _∷_, _++_};
+ghost use lib.ListN.{set};
+ghost use lib.Dec.{leb};
+ghost use Rattle.model.specs.Edits.{Edit};
+ghost use Rattle.model.specs.Sync.{as-collided, without-plan, change-front, new-pending};
 ghost use Rattle.waiting.specs.Queues.{below, queue, put-queue, all-entries, without, planned};
-ghost use Rattle.waiting.specs.Slots.{HasSlots, ReadsSlots, Rewrites, Opens, counts, tallied};
-ghost use Rattle.waiting.specs.Entries.{FindsEntry, PlanBytes};
+ghost use Rattle.waiting.specs.Slots.{HasSlots, ReadsSlots, EditsSlots, Rewrites, Opens, counts, tallied, new-fields};
+ghost use Rattle.waiting.specs.Entries.{FindsEntry, PlanBytes, EditBytes, IsEdit};
 
 const EDITS: usize = 20002;
 
@@ -209,4 +213,49 @@ pub fn clear_plan(work: &mut [u8], name: Name)
 {
     let none = [0u8; 1];
     set_plan(work, name, &none, &none);
+}
+
+// The fields of a new entry into slot i.
+fn fill_entry(
+    work: &mut [u8],
+    i: usize,
+    name: Name,
+    id: &[u8],
+    operation: &[u8],
+    role: &[u8],
+    expiry: &[u8],
+)
+    requires { ⌜ HasSlots (now work) ⌝ }
+    requires { ⌜ (i < getD (now work) 20002 0) × (length (now id) ≤ 33) × (length (now operation) ≤ 1469) × (length (now role) ≤ 34) × (length (now expiry) ≤ 9) × (length (name .bytes) ≤ 33) ⌝ }
+    ensures { λ _. ⌜ EditsSlots (λ t. set t i (new-fields (name .bytes) (now (id .entry)) (now (operation .entry)) (now (role .entry)) (now (expiry .entry)) (getD t i []))) (now (work .entry)) (now (work .exit)) ⌝ }
+{
+    let key = name.bytes;
+    write_field(work, i, 0, 33, &key);
+    write_field(work, i, 33, 33, id);
+    write_field(work, i, 66, 1469, operation);
+    write_field(work, i, 1535, 34, role);
+    write_field(work, i, 1569, 9, expiry);
+}
+
+// An edit behind the others of its resource; false if that takes one entry more than the limit.
+pub fn append(
+    work: &mut [u8],
+    name: Name,
+    id: &[u8],
+    operation: &[u8],
+    role: &[u8],
+    expiry: &[u8],
+) -> bool
+    requires { ⌜ HasState (now work) ⌝ }
+    requires { ⌜ (Named (name .bytes)) × (IsEdit (name-of (name .bytes)) (now id) (now operation) (now role) (now expiry)) ⌝ }
+    ensures { λ r. ⌜ ((e : Edit) → EditBytes e (name-of (name .bytes)) (now (id .entry)) (now (operation .entry)) (now (role .entry)) (now (expiry .entry)) → Tries (λ s. leb (all-entries (put-queue (name-of (name .bytes)) (queue (name-of (name .bytes)) s ++ (new-pending e ∷ [])) s)) 6) (λ s. put-queue (name-of (name .bytes)) (queue (name-of (name .bytes)) s ++ (new-pending e ∷ [])) s) (now (work .entry)) r (now (work .exit))) ⌝ }
+{
+    let n = entries(work);
+    if 6 <= n {
+        return false;
+    }
+    let i = entries_before(work, name) + waiting_count(work, name);
+    open_entry(work, i);
+    fill_entry(work, i, name, id, operation, role, expiry);
+    true
 }
