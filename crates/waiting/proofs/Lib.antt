@@ -3,4 +3,5 @@ pub mod Lists
 pub mod Fields
 pub mod Splices
 pub mod Writes
+pub mod Keys
 pub mod Laws

@@ -20,7 +20,7 @@ use Rattle.waiting.proofs.Splices as splices
 
 -- ---- a field: zeros, and the value over them
 
-drop-zeros : (k n : ℕ) → k ≤ n → drop k (zeros n) ≡ zeros (n - k)
+pub drop-zeros : (k n : ℕ) → k ≤ n → drop k (zeros n) ≡ zeros (n - k)
 drop-zeros k n h =
     let e : n ≡ k + (n - k) = omega arith in
     ap (λ (m : ℕ). drop k (zeros m)) e ∙ ap (drop k) (sym (replicate-append-replicate k (n - k) 0)) ∙ drop-at (zeros k) (zeros (n - k)) k (length-replicate k 0)

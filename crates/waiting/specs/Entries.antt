@@ -13,7 +13,9 @@ use Rattle.model.specs.Edits.{Edit}
 use Rattle.model.specs.State.{Pending, SyncState}
 use Rattle.model.specs.Limits.{document01}
 use Rattle.model.specs.Formats.{shortText, operationF, roleF, conflictsF, refusalsF}
-use Rattle.state.specs.Layout.{field, pending-slot}
+use Rattle.tables.specs.Table.{flat}
+use Rattle.model.specs.Maps.{map, keys}
+use Rattle.state.specs.Layout.{padded, field, name-slot, pending-slot}
 use Rattle.state.specs.Fits.{PendingFits}
 use Rattle.state.specs.Contract.{Keeps}
 use Rattle.waiting.specs.Queues.{queue, nth}
@@ -67,3 +69,7 @@ pub record EditBytes (e : Edit) (r : ResourceId) (id operation role expiry : Lis
 pub record IsEdit (r : ResourceId) (id operation role expiry : List ℕ) : Type 0 where
   pub edit : Edit
   pub is : EditBytes edit r id operation role expiry
+
+-- the resources that have a queue, in order, as names of 33 bytes
+pub record ListsResources (w : List ℕ) (count : ℕ) (bytes : List ℕ) : Type 0 where
+  pub is : (s : SyncState) → Keeps s w → (count ≡ length (s .edits)) × (bytes ≡ padded 198 (flat (map name-slot (keys (s .edits)))))
