@@ -238,3 +238,6 @@ turn-next {s} {w} i count n bytes b bytes′ h l L q N p =
     let k : length b ≡ 33 = ap length e ∙ length-name (R .e .0) (R .ok) in
     subst (λ (m : ℕ). Listed (s .edits) (i + m) (count + 1) bytes′) c
     (R .next bytes′ (p ∙ ap₂ (λ (x : List ℕ) (m : ℕ). take (count * 33) bytes ++ (x ++ drop (count * 33 + m) bytes)) e k))
+
+pub key-long : {s : SyncState} {w : List ℕ} (i count : ℕ) (bytes b : List ℕ) → (R : Turn s w i count bytes) → b ≡ take 33 (drop (20002 + (1 + i * 5940)) w) → length b ≡ 33
+key-long i count bytes b R q = ap length (q ∙ R .key) ∙ length-name (R .e .0) (R .ok)

@@ -255,7 +255,7 @@ end-count r w n i H N I =
     let d : i ≡ below r (s .edits) = I .is s h in
     omega arith
 
-all-count : (w : List ℕ) (n : ℕ) → HasState w → Reads all-entries w n → n ≡ getD w 20002 0
+pub all-count : (w : List ℕ) (n : ℕ) → HasState w → Reads all-entries w n → n ≡ getD w 20002 0
 all-count w n H R = R .is (H .state) (H .keeps) ∙ sym (flat-count (H .state .edits)) ∙ sym (splices.slots-of (H .keeps) .count)
 
 pub room-for : (w : List ℕ) (n : ℕ) → HasState w → Reads all-entries w n → n < 6 → getD w 20002 0 < 6

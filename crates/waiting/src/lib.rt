@@ -21,13 +21,19 @@ ghost use Rattle.model.specs.Edits.{Edit};
 ghost use Rattle.model.specs.Sync.{as-collided, without-plan, change-front, new-pending};
 ghost use Rattle.waiting.specs.Queues.{below, queue, put-queue, all-entries, without, planned};
 ghost use Rattle.waiting.specs.Slots.{HasSlots, ReadsSlots, EditsSlots, Rewrites, Opens, counts, tallied, new-fields};
-ghost use Rattle.waiting.specs.Entries.{FindsEntry, PlanBytes, EditBytes, IsEdit};
+ghost use Rattle.waiting.specs.Entries.{FindsEntry, ListsResources, PlanBytes, EditBytes, IsEdit};
 
 const EDITS: usize = 20002;
 
 const EDITS_SIZE: usize = 35641;
 
 const EDITS_SLOT: usize = 5940;
+
+// The resources that have a queue, in order: so many names of 33 bytes.
+pub struct ResourceNames {
+    pub count: usize,
+    pub bytes: [u8; 198],
+}
 
 // ---- counting slots by their keys
 
@@ -125,6 +131,25 @@ pub fn find_entry(work: &[u8], name: Name, j: usize) -> Place
     }
     let i = entries_before(work, name) + j;
     Place::Found(EDITS + (1 + i * EDITS_SLOT))
+}
+
+// The resources that have a queue.
+pub fn resources(work: &[u8]) -> ResourceNames
+    requires { ⌜ HasState (now work) ⌝ }
+    ensures { λ r. ⌜ ListsResources (now (work .entry)) (r .count) (r .bytes) ⌝ }
+{
+    let total = entries(work);
+    let mut bytes = [0u8; 198];
+    let mut count = 0;
+    let mut i = 0;
+    while i < total {
+        let name = names::name_at(work, EDITS + (1 + i * EDITS_SLOT));
+        let key = name.bytes;
+        tables::put_slot(&mut bytes, count * 33, &key);
+        i += waiting_count(work, name);
+        count += 1;
+    }
+    ResourceNames { count, bytes }
 }
 
 // ---- writing slots
