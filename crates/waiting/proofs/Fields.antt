@@ -5,7 +5,7 @@ use mathlib.Core.Path.{_≡_, refl, sym, ap, ap₂, _∙_, subst}
 use mathlib.Core.List.{List, [], _∷_, _++_, append-nil}
 use mathlib.Core.Option.{Option, none, some}
 use mathlib.Core.Bool.{Bool, true, false}
-use lib.ListN.{length, take, drop, getD, set, length-replicate, replicate-append-replicate}
+use lib.ListN.{length, take, drop, getD, set, length-append, length-replicate, replicate-append-replicate}
 use Rattle.format.specs.Format.{All, option, list, stamp, bool, via, below}
 use Rattle.spans.specs.Bytes.{zeros}
 use Rattle.tables.specs.Table.{Table, flat, Lens, offset}
@@ -14,8 +14,10 @@ use Rattle.lent.specs.Lent.{part, placed}
 use Rattle.model.specs.Seam.{ResourceId}
 use Rattle.model.specs.Parts.{Conflict, Refused}
 use Rattle.model.specs.State.{Pending}
-use Rattle.model.specs.Edits.{Edit}
-use Rattle.model.specs.Sync.{as-collided, new-pending}
+use Rattle.model.specs.Event.{Text}
+use Rattle.model.specs.Edits.{Edit, Operation}
+use Rattle.model.specs.Sync.{as-collided, new-pending, absorb}
+use Rattle.model.proofs.Fitting.{all-append}
 use Rattle.model.specs.Limits.{document01}
 use Rattle.model.specs.Formats.{resourceId, shortText, operationF, roleF, conflictsF, refusalsF}
 use Rattle.state.specs.Layout.{padded, field, name-slot, pending-slot}
@@ -24,9 +26,11 @@ use Rattle.state.proofs.Widths.{bool-within, text-33, time-within, operation-wi
 use Rattle.state.proofs.Padded.{length-padded, length-field, length-name}
 use Rattle.state.proofs.Regions.{pending-long}
 use Rattle.waiting.specs.Queues.{planned}
-use Rattle.waiting.specs.Slots.{new-fields}
-use Rattle.waiting.specs.Entries.{PlanBytes, EditBytes, IsEdit}
+use Rattle.waiting.specs.Slots.{new-fields, more-fields}
+use Rattle.waiting.specs.Entries.{PlanBytes, EditBytes, IsEdit, FoldBytes}
 use Rattle.waiting.proofs.Cuts.{Slot}
+use Rattle.waiting.proofs.Lists as lists
+use Rattle.waiting.proofs.Texts.{Ids, ids-more, list-more}
 
 abbrev pub widths : List ℕ
 widths = 33 ∷ 33 ∷ 1469 ∷ 34 ∷ 9 ∷ 3072 ∷ 1024 ∷ 1 ∷ 265 ∷ []
@@ -258,3 +262,82 @@ edit-long r id operation role expiry I =
       subst (λ (x : List ℕ). length x ≤ 34) (sym (B .role-is)) (role-within .most (e .role) (B .role-ok)),
       subst (λ (x : List ℕ). length x ≤ 9) (sym (B .expires-is)) (time-within .most (e .expires-at) (B .expires-ok)),
     )
+
+-- ---- an edit folded into an entry
+
+lens-set : (ns : List ℕ) (rs : Table) (k : ℕ) (y : List ℕ) → Lens ns rs → length y ≡ getD ns k 0 → Lens ns (set rs k y)
+lens-set [] [] k y h e = tt
+lens-set [] (r ∷ rs) k y h e = absurd h
+lens-set (n ∷ ns) [] k y h e = absurd h
+lens-set (n ∷ ns) (r ∷ rs) zero y h e = (e, h .1)
+lens-set (n ∷ ns) (r ∷ rs) (suc k) y h e = (h .0, lens-set ns rs k y (h .1) e)
+
+pub absorbed-fits : (r : ResourceId) (p : Pending) (o : Operation) (e : Edit) (operation expiry id : List ℕ) → PendingFits document01 r p → FoldBytes o e operation expiry id → length (p .absorbed) < 8
+    → PendingFits document01 r (absorb o e p)
+unfolding absorb document01 list
+absorbed-fits r p o e operation expiry id ok B l = record {
+  resource-is = ok .resource-is;
+  id = ok .id;
+  operation = B .operation-ok;
+  role = ok .role;
+  expires-at = B .expires-ok;
+  conflicts = ok .conflicts;
+  conflict-bytes = ok .conflict-bytes;
+  refused = ok .refused;
+  refused-bytes = ok .refused-bytes;
+  absorbed = (
+    let n : length (p .absorbed ++ (e .id ∷ [])) ≡ length (p .absorbed) + 1 = length-append (p .absorbed) (e .id ∷ []) in omega arith,
+    all-append (shortText .Ok) (p .absorbed) (e .id ∷ []) (ok .absorbed .1) (B .id-ok, tt),
+  );
+}
+
+-- so many ids leave room for one more
+pub ids-room : (r : ResourceId) (p : Pending) (o : Operation) (e : Edit) (operation expiry id : List ℕ) → PendingFits document01 r p → FoldBytes o e operation expiry id → length (p .absorbed) < 8
+    → suc (length (Ids (p .absorbed))) + length id ≤ 265
+unfolding absorb document01 list
+ids-room r p o e operation expiry id ok B l =
+    let f : length (list 8 shortText .enc (p .absorbed ++ (e .id ∷ []))) ≤ 265 = absorbed-within document01 .most (p .absorbed ++ (e .id ∷ [])) (absorbed-fits r p o e operation expiry id ok B l .absorbed) in
+    let a : length (Ids (p .absorbed ++ (e .id ∷ []))) ≡ length (Ids (p .absorbed)) + length (shortText .enc (e .id)) = ap length (ids-more (p .absorbed) (e .id)) ∙ length-append (Ids (p .absorbed)) (shortText .enc (e .id)) in
+    let b : length id ≡ length (shortText .enc (e .id)) = ap length (B .id-is) in
+    omega arith
+
+pub absorbed-put : (r : ResourceId) (p : Pending) → resourceId .Ok r → PendingFits document01 r p → (o : Operation) (e : Edit) (operation expiry id : List ℕ) → FoldBytes o e operation expiry id → length (p .absorbed) < 8
+    → more-fields (5675 + suc (length (Ids (p .absorbed)))) (length (p .absorbed) + 1) operation expiry id (Slot r p) ≡ Slot r (absorb o e p)
+unfolding absorb
+absorbed-put r p k ok o e operation expiry id B l =
+    let ids : List Text = p .absorbed in
+    let n : ℕ = suc (length (Ids (p .absorbed))) in
+    let y2 : List ℕ = padded 1469 operation in
+    let y4 : List ℕ = padded 9 expiry in
+    let l2 : length (padded 1469 operation) ≡ 1469 = ap (λ (x : List ℕ). length (padded 1469 x)) (B .operation-is) ∙ length-field operation-within o (B .operation-ok) in
+    let l4 : length (padded 9 expiry) ≡ 9 = ap (λ (x : List ℕ). length (padded 9 x)) (B .expires-is) ∙ length-field time-within (e .expires-at) (B .expires-ok) in
+    let h = ids-room r p o e operation expiry id ok B l in
+    let T0 : Table = fields r p in
+    let T1 : Table = set (fields r p) 2 y2 in
+    let T2 : Table = set (set (fields r p) 2 y2) 4 y4 in
+    let z0 : Lens widths T0 = fields-long r p k ok in
+    let z1 : Lens widths T1 = lens-set widths T0 2 y2 z0 l2 in
+    let z2 : Lens widths T2 = lens-set widths T1 4 y4 z1 l4 in
+    let A : List ℕ = field 265 (list 8 shortText) (p .absorbed) in
+    let A1 : List ℕ = placed n (length id) (padded (length id) id) A in
+    let T3 : Table = set T2 8 A1 in
+    let la : length A ≡ 265 = z0 .1 .1 .1 .1 .1 .1 .1 .1 .0 in
+    let l8 : length A1 ≡ 265 = lists.length-placed n (length id) (padded (length id) id) A (omega arith) (length-padded (length id) id (omega arith)) ∙ la in
+    let z3 : Lens widths T3 = lens-set widths T2 8 A1 z2 l8 in
+    let f2 : length (flat T2) ≡ 5940 = tables.length-regions widths T2 z2 in
+    let f3 : length (flat T3) ≡ 5940 = tables.length-regions widths T3 z3 in
+    let c : List ℕ = padded 1 ((length (p .absorbed) + 1) ∷ []) in
+    let s1 : placed 66 1469 y2 (Slot r p) ≡ flat T1 = ap (placed 66 1469 y2) (slot-is r p) ∙ field-put 2 T0 y2 z0 (omega arith) in
+    let s2 : placed 1569 9 y4 (flat T1) ≡ flat T2 = field-put 4 T1 y4 z1 (omega arith) in
+    let s3 : placed (5675 + n) (length id) (padded (length id) id) (flat T2) ≡ flat T3 =
+    lists.placed-in 5675 265 n (length id) (padded (length id) id) (flat T2) h (omega arith)
+    ∙ ap (λ (x : List ℕ). placed 5675 265 (placed n (length id) (padded (length id) id) x) (flat T2)) (field-of 8 T2 z2 (omega arith)) ∙ field-put 8 T2 A1 z2 (omega arith) in
+    let s4 : placed 5675 1 c (flat T3) ≡ flat (set T3 8 (placed 0 1 c A1)) =
+    lists.placed-in 5675 265 0 1 c (flat T3) (omega arith) (omega arith)
+    ∙ ap (λ (x : List ℕ). placed 5675 265 (placed 0 1 c x) (flat T3)) (field-of 8 T3 z3 (omega arith)) ∙ field-put 8 T3 (placed 0 1 c A1) z3 (omega arith) in
+    ap (λ (x : List ℕ). placed 5675 1 c (placed (5675 + n) (length id) (padded (length id) id) (placed 1569 9 y4 x))) s1
+    ∙ ap (λ (x : List ℕ). placed 5675 1 c (placed (5675 + n) (length id) (padded (length id) id) x)) s2
+    ∙ ap (placed 5675 1 c) s3 ∙ s4
+    ∙ ap (λ (x : List ℕ). flat (set T3 8 x)) (list-more (p .absorbed) (e .id) id (B .id-is) h)
+    ∙ ap₂ (λ (x y : List ℕ). flat (set (set (set (fields r p) 2 (padded 1469 x)) 4 (padded 9 y)) 8 (field 265 (list 8 shortText) (p .absorbed ++ (e .id ∷ []))))) (B .operation-is) (B .expires-is)
+    ∙ sym (slot-is r (absorb o e p))

@@ -182,7 +182,7 @@ removes r w w′ n i j k H N I l g = record {
 
 -- entry j is changed where its slot is: F of the bytes is g of the entry
 pub changes : (r : ResourceId) (w w′ : List ℕ) (n i j at : ℕ) (g : Pending → Pending) (F : List ℕ → List ℕ) → resourceId .Ok r → Reads (λ s. length (queue r s)) w n → Reads (λ s. below r (s .edits)) w i
-    → j < n → at ≡ i + j → ((p : Pending) → PendingFits document01 r p → PendingFits document01 r (g p) × (F (Slot r p) ≡ Slot r (g p)))
+    → j < n → at ≡ i + j → ((s : SyncState) → Keeps s w → (p : Pending) → nth j (queue r s) ≡ some p → PendingFits document01 r p → PendingFits document01 r (g p) × (F (Slot r p) ≡ Slot r (g p)))
     → EditsSlots (λ t. set t at (F (getD t at []))) w w′ → Edits (λ s. put-queue r (change-at j g (queue r s)) s) w w′
 changes r w w′ n i j at g F k N I l e f E = record {
   makes = λ s h.
@@ -192,8 +192,8 @@ changes r w w′ n i j at g F k N I l e f E = record {
       let t : Table = Flat (s .edits) in
       let ok : PendingFits document01 r p = lists.nth-all (PendingFits document01 r) j (queue r s) p (splices.cut-of r h .own) (x .1) in
       let a : at ≡ below r (s .edits) + j = e ∙ ap (λ (m : ℕ). m + j) (I .is s h) in
-      let y : F (getD t at []) ≡ Slot r (g p) = ap F (ap (λ (m : ℕ). getD t m []) a ∙ splices.row-of r h j p (x .1) (omega arith)) ∙ f p ok .1 in
-      splices.changed r k h w′ j g p (x .1) (omega arith) (f p ok .0)
+      let y : F (getD t at []) ≡ Slot r (g p) = ap F (ap (λ (m : ℕ). getD t m []) a ∙ splices.row-of r h j p (x .1) (omega arith)) ∙ f s h p (x .1) ok .1 in
+      splices.changed r k h w′ j g p (x .1) (omega arith) (f s h p (x .1) ok .0)
       (subst (λ (u : Table). Slots u w w′) (ap₂ (λ (m : ℕ) (z : List ℕ). set t m z) a y) (E .makes t w (splices.slots-of h)));
 }
 
@@ -217,7 +217,7 @@ front-none r g w n k N l = record { makes = λ s h. splices.kept r k h w (change
 pub front-changes : (r : ResourceId) (w w′ : List ℕ) (n i : ℕ) (g : Pending → Pending) (F : List ℕ → List ℕ) → resourceId .Ok r → Reads (λ s. length (queue r s)) w n → Reads (λ s. below r (s .edits)) w i
     → 0 < n → ((p : Pending) → PendingFits document01 r p → PendingFits document01 r (g p) × (F (Slot r p) ≡ Slot r (g p)))
     → EditsSlots (λ t. set t i (F (getD t i []))) w w′ → Edits (λ s. put-queue r (change-front g (queue r s)) s) w w′
-front-changes r w w′ n i g F k N I l f E = front-edits r g w w′ (changes r w w′ n i 0 i g F k N I l (sym (add-zero i)) f E)
+front-changes r w w′ n i g F k N I l f E = front-edits r g w w′ (changes r w w′ n i 0 i g F k N I l (sym (add-zero i)) (λ s h p e ok. f p ok) E)
 
 pub front-count : (r : ResourceId) (w : List ℕ) (n i : ℕ) → HasState w → Reads (λ s. length (queue r s)) w n → Reads (λ s. below r (s .edits)) w i → 0 < n → i < getD w 20002 0
 front-count r w n i H N I l = let a = index-count r w n i 0 H N I l in omega arith

@@ -10,8 +10,10 @@ use lib.Seq.{length-take-le, take-at, drop-at, take-append-le, drop-append-le, t
 use Rattle.format.specs.Format.{All}
 use Rattle.model.specs.State.{Pending, Queue}
 use Rattle.model.specs.Maps.{map}
+use Rattle.model.specs.Machine.{match_none:_some:_}
+use Rattle.model.specs.Sync.{back, without-back}
 use Rattle.lent.specs.Lent.{part, placed}
-use Rattle.waiting.specs.Queues.{nth, without, change-at}
+use Rattle.waiting.specs.Queues.{nth, without, change-at, change-last}
 
 -- ---- a list in three parts
 
@@ -154,3 +156,43 @@ unfolding nth
 nth-all P j [] p a e = absurd (Option·none-ne-some p e)
 nth-all P zero (x ∷ q) p a e = subst P (some-of e) (a .0)
 nth-all P (suc j) (x ∷ q) p a e = nth-all P j q p (a .1) e
+
+-- ---- the newest entry
+
+pub nth-back : (q : Queue) → nth (length q - 1) q ≡ back q
+unfolding nth back
+nth-back [] = refl
+nth-back (p ∷ []) = refl
+nth-back (p ∷ (x ∷ q)) =
+    let e : suc (suc (length q)) - 1 ≡ suc (length (x ∷ q) - 1) = omega arith in
+    ap (λ (n : ℕ). nth n (p ∷ (x ∷ q))) e ∙ nth-back (x ∷ q)
+
+change-back : (f : Pending → Pending) (q : Queue) (p : Pending) → back q ≡ some p → change-at (length q - 1) f q ≡ without-back q ++ (f p ∷ [])
+unfolding back without-back change-at
+change-back f [] p e = absurd (Option·none-ne-some p e)
+change-back f (x ∷ []) p e = ap (λ (y : Pending). f y ∷ []) (some-of e)
+change-back f (x ∷ (y ∷ q)) p e =
+    let n : suc (suc (length q)) - 1 ≡ suc (length (y ∷ q) - 1) = omega arith in
+    ap (λ (k : ℕ). change-at k f (x ∷ (y ∷ q))) n ∙ ap (λ (z : Queue). x ∷ z) (change-back f (y ∷ q) p e)
+
+no-change : (f : Pending → Pending) (q : Queue) → back q ≡ none → change-at (length q - 1) f q ≡ q
+unfolding back change-at
+no-change f [] e = refl
+no-change f (x ∷ []) e = absurd (Option·none-ne-some x (sym e))
+no-change f (x ∷ (y ∷ q)) e =
+    let n : suc (suc (length q)) - 1 ≡ suc (length (y ∷ q) - 1) = omega arith in
+    ap (λ (k : ℕ). change-at k f (x ∷ (y ∷ q))) n ∙ ap (λ (z : Queue). x ∷ z) (no-change f (y ∷ q) e)
+
+pub change-last-is : (f : Pending → Pending) (q : Queue) → change-at (length q - 1) f q ≡ change-last f q
+unfolding change-last match_none:_some:_
+change-last-is f q = go (back q) refl
+  where
+    go : (o : Option Pending) → back q ≡ o → change-at (length q - 1) f q ≡ (match o none: q some: (λ p. without-back q ++ (f p ∷ [])))
+    go none e = no-change f q e
+    go (some p) e = change-back f q p e
+
+-- an empty queue has no newest entry
+pub back-none : (q : Queue) → length q ≡ 0 → back q ≡ none
+unfolding back
+back-none [] e = refl
+back-none (p ∷ q) e = absurd (omega arith)

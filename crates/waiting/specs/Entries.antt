@@ -9,7 +9,7 @@ use Rattle.tables.specs.declared.Place.{Place}
 use Rattle.tables.specs.declared.Place.the-variants.{Found, Missing}
 use Rattle.model.specs.Seam.{ResourceId}
 use Rattle.model.specs.Parts.{Conflict, Refused}
-use Rattle.model.specs.Edits.{Edit}
+use Rattle.model.specs.Edits.{Edit, Operation}
 use Rattle.model.specs.State.{Pending, SyncState}
 use Rattle.model.specs.Limits.{document01}
 use Rattle.model.specs.Formats.{shortText, operationF, roleF, conflictsF, refusalsF}
@@ -73,3 +73,12 @@ pub record IsEdit (r : ResourceId) (id operation role expiry : List ℕ) : Type 
 -- the resources that have a queue, in order, as names of 33 bytes
 pub record ListsResources (w : List ℕ) (count : ℕ) (bytes : List ℕ) : Type 0 where
   pub is : (s : SyncState) → Keeps s w → (count ≡ length (s .edits)) × (bytes ≡ padded 198 (flat (map name-slot (keys (s .edits)))))
+
+-- the bytes of what an entry takes from an edit that is folded into it
+pub record FoldBytes (o : Operation) (e : Edit) (operation expiry id : List ℕ) : Type 0 where
+  pub operation-ok : operationF .Ok o
+  pub operation-is : operation ≡ operationF .enc o
+  pub expires-ok : option stamp .Ok (e .expires-at)
+  pub expires-is : expiry ≡ option stamp .enc (e .expires-at)
+  pub id-ok : shortText .Ok (e .id)
+  pub id-is : id ≡ shortText .enc (e .id)

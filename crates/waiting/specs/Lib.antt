@@ -3,3 +3,5 @@ pub mod Queues
 -- The waiting entries' table in the work buffer, and where an entry stands in it.
 pub mod Slots
 pub mod Entries
+-- Texts one behind the other.
+pub mod Texts

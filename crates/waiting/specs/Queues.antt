@@ -3,13 +3,15 @@ use Prim.Native.Nat.{ℕ, zero, suc, _+_, _-_}
 use mathlib.Core.List.{List, [], _∷_, _++_}
 use mathlib.Core.Option.{Option, none, some}
 use mathlib.Core.Bool.{Bool, true}
+use lib.Dec.{leb}
 use lib.ListN.{length, take, drop}
 use Rattle.model.specs.Seam.{ResourceId}
 use Rattle.model.specs.Parts.{Conflict, Refused}
 use Rattle.model.specs.State.{Map, Pending, Queue, SyncState}
 use Rattle.model.specs.Maps.{by, by-name, get, insert, remove, map, values}
 use Rattle.model.specs.Machine.{match_none:_some:_, sum}
-use Rattle.model.specs.Sync.{with-resource}
+use Rattle.model.specs.Edits.{Edit, Operation}
+use Rattle.model.specs.Sync.{with-resource, back, without-back, absorb}
 use Rattle.state.specs.Setters.{with-edits}
 
 -- ---- in the map
@@ -63,3 +65,11 @@ planned conflicts refused p = record { edit = p .edit; conflicts = conflicts; re
 -- the entry under another name
 unfoldable pub renamed : ResourceId → Pending → Pending
 renamed to p = record { edit = with-resource to (p .edit); conflicts = p .conflicts; refused = p .refused; collided = p .collided; absorbed = p .absorbed }
+
+-- the newest entry changed, as the model's `fold-in` does
+unfoldable pub change-last : (Pending → Pending) → Queue → Queue
+change-last f q = match back q none: q some: (λ p. without-back q ++ (f p ∷ []))
+
+-- whether the newest entry may absorb one edit more
+unfoldable pub may-absorb : Operation → Edit → Queue → Bool
+may-absorb operation e q = match back q none: true some: (λ p. leb (length (absorb operation e p .absorbed)) 8)

@@ -62,6 +62,11 @@ abbrev pub new-fields : (name id operation role expiry : List ℕ) → List ℕ 
 new-fields name id operation role expiry x =
     placed 1569 9 (padded 9 expiry) (placed 1535 34 (padded 34 role) (placed 66 1469 (padded 1469 operation) (placed 33 33 (padded 33 id) (placed 0 33 (padded 33 name) x))))
 
+-- an operation, an expiry, an id at o and the count of the ids in the place of what stands in a slot
+abbrev pub more-fields : ℕ → ℕ → (operation expiry id : List ℕ) → List ℕ → List ℕ
+more-fields o count operation expiry id x =
+    placed 5675 1 (padded 1 (count ∷ [])) (placed o (length id) (padded (length id) id) (placed 1569 9 (padded 9 expiry) (placed 66 1469 (padded 1469 operation) x)))
+
 -- slot x before slot i
 abbrev pub inserted : ℕ → List ℕ → Table → Table
 inserted i x t = take i t ++ (x ∷ drop i t)
