@@ -6,3 +6,4 @@ pub mod Writes
 pub mod Texts
 pub mod Keys
 pub mod Laws
+pub mod Folds

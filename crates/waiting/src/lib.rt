@@ -17,11 +17,12 @@ ghost use Rattle.model.specs.Parts.{Conflict, Refused};
 ghost use mathlib.Core.List.{[], _∷_, _++_};
 ghost use lib.ListN.{set};
 ghost use lib.Dec.{leb};
-ghost use Rattle.model.specs.Edits.{Edit};
-ghost use Rattle.model.specs.Sync.{as-collided, without-plan, change-front, new-pending};
-ghost use Rattle.waiting.specs.Queues.{below, queue, put-queue, all-entries, without, planned};
-ghost use Rattle.waiting.specs.Slots.{HasSlots, ReadsSlots, EditsSlots, Rewrites, Opens, counts, tallied, new-fields};
-ghost use Rattle.waiting.specs.Entries.{FindsEntry, ListsResources, PlanBytes, EditBytes, IsEdit};
+ghost use Rattle.model.specs.Edits.{Edit, Operation};
+ghost use Rattle.model.specs.Sync.{as-collided, without-plan, change-front, new-pending, absorb};
+ghost use Rattle.waiting.specs.Queues.{below, queue, put-queue, all-entries, without, planned, change-last, may-absorb};
+ghost use Rattle.waiting.specs.Slots.{HasSlots, ReadsSlots, EditsSlots, Rewrites, Opens, counts, tallied, new-fields, more-fields};
+ghost use Rattle.waiting.specs.Entries.{FindsEntry, ListsResources, PlanBytes, EditBytes, IsEdit, FoldBytes};
+ghost use Rattle.waiting.specs.Texts.{text-end, texts-end};
 
 const EDITS: usize = 20002;
 
@@ -282,5 +283,73 @@ pub fn append(
     let i = entries_before(work, name) + waiting_count(work, name);
     open_entry(work, i);
     fill_entry(work, i, name, id, operation, role, expiry);
+    true
+}
+
+// ---- folding
+
+// Where the text at `at` ends.
+fn text_end(src: &[u8], at: usize) -> usize
+    ensures { λ r. ⌜ r ≡ text-end (now (src .entry)) at ⌝ }
+{
+    if src.len() <= at {
+        return at;
+    }
+    at + (1 + src[at] as usize)
+}
+
+// Where the last of n texts ends, the first of which stands at `start`.
+fn texts_end(src: &[u8], start: usize, n: usize) -> usize
+    ensures { λ r. ⌜ r ≡ texts-end n (now (src .entry)) start ⌝ }
+{
+    let mut left = n;
+    let mut at = start;
+    while 0 < left {
+        at = text_end(src, at);
+        left -= 1;
+    }
+    at
+}
+
+// What an entry takes from an edit that is folded into it: the id goes to `o` of slot i.
+fn absorb_into(
+    work: &mut [u8],
+    i: usize,
+    o: usize,
+    count: u8,
+    operation: &[u8],
+    expiry: &[u8],
+    id: &[u8],
+)
+    requires { ⌜ HasSlots (now work) ⌝ }
+    requires { ⌜ (i < getD (now work) 20002 0) × (o + length (now id) ≤ 5940) × (length (now operation) ≤ 1469) × (length (now expiry) ≤ 9) ⌝ }
+    ensures { λ _. ⌜ EditsSlots (λ t. set t i (more-fields o count (now (operation .entry)) (now (expiry .entry)) (now (id .entry)) (getD t i []))) (now (work .entry)) (now (work .exit)) ⌝ }
+{
+    let width = id.len();
+    let counted = [count; 1];
+    write_field(work, i, 66, 1469, operation);
+    write_field(work, i, 1569, 9, expiry);
+    write_field(work, i, o, width, id);
+    write_field(work, i, 5675, 1, &counted);
+}
+
+// Folds an edit into the newest entry of a queue; false if that entry has absorbed as many as it may.
+pub fn fold(work: &mut [u8], name: Name, operation: &[u8], expiry: &[u8], id: &[u8]) -> bool
+    requires { ⌜ HasState (now work) ⌝ }
+    requires { ⌜ (Named (name .bytes)) × (length (now operation) ≤ 1469) × (length (now expiry) ≤ 9) × (length (now id) ≤ 33) ⌝ }
+    ensures { λ r. ⌜ ((o : Operation) (e : Edit) → FoldBytes o e (now (operation .entry)) (now (expiry .entry)) (now (id .entry)) → Tries (λ s. may-absorb o e (queue (name-of (name .bytes)) s)) (λ s. put-queue (name-of (name .bytes)) (change-last (absorb o e) (queue (name-of (name .bytes)) s)) s) (now (work .entry)) r (now (work .exit))) ⌝ }
+{
+    let n = waiting_count(work, name);
+    if n == 0 {
+        return true;
+    }
+    let i = entries_before(work, name) + (n - 1);
+    let p = EDITS + (1 + i * EDITS_SLOT);
+    let count = work[p + 5675];
+    if 8 <= count {
+        return false;
+    }
+    let end = texts_end(work, p + 5676, count as usize);
+    absorb_into(work, i, end - p, count + 1, operation, expiry, id);
     true
 }
