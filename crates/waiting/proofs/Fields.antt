@@ -5,7 +5,7 @@ use mathlib.Core.Path.{_≡_, refl, sym, ap, ap₂, _∙_, subst}
 use mathlib.Core.List.{List, [], _∷_, _++_, append-nil}
 use mathlib.Core.Option.{Option, none, some}
 use mathlib.Core.Bool.{Bool, true, false}
-use lib.ListN.{length, take, drop, getD, set, length-append, length-replicate, replicate-append-replicate}
+use lib.ListN.{length, take, drop, getD, set, length-append, length-replicate, replicate-append-replicate, drop-of-length-le}
 use Rattle.format.specs.Format.{All, option, list, stamp, bool, via, below}
 use Rattle.spans.specs.Bytes.{zeros}
 use Rattle.tables.specs.Table.{Table, flat, Lens, offset}
@@ -16,7 +16,7 @@ use Rattle.model.specs.Parts.{Conflict, Refused}
 use Rattle.model.specs.State.{Pending}
 use Rattle.model.specs.Event.{Text}
 use Rattle.model.specs.Edits.{Edit, Operation}
-use Rattle.model.specs.Sync.{as-collided, new-pending, absorb}
+use Rattle.model.specs.Sync.{as-collided, new-pending, absorb, with-resource}
 use Rattle.model.proofs.Fitting.{all-append}
 use Rattle.model.specs.Limits.{document01}
 use Rattle.model.specs.Formats.{resourceId, shortText, operationF, roleF, conflictsF, refusalsF}
@@ -25,7 +25,7 @@ use Rattle.state.specs.Fits.{PendingFits}
 use Rattle.state.proofs.Widths.{bool-within, text-33, time-within, operation-within, role-within, absorbed-within}
 use Rattle.state.proofs.Padded.{length-padded, length-field, length-name}
 use Rattle.state.proofs.Regions.{pending-long}
-use Rattle.waiting.specs.Queues.{planned}
+use Rattle.waiting.specs.Queues.{planned, renamed}
 use Rattle.waiting.specs.Slots.{new-fields, more-fields}
 use Rattle.waiting.specs.Entries.{PlanBytes, EditBytes, IsEdit, FoldBytes}
 use Rattle.waiting.proofs.Cuts.{Slot}
@@ -341,3 +341,36 @@ absorbed-put r p k ok o e operation expiry id B l =
     ∙ ap (λ (x : List ℕ). flat (set T3 8 x)) (list-more (p .absorbed) (e .id) id (B .id-is) h)
     ∙ ap₂ (λ (x y : List ℕ). flat (set (set (set (fields r p) 2 (padded 1469 x)) 4 (padded 9 y)) 8 (field 265 (list 8 shortText) (p .absorbed ++ (e .id ∷ []))))) (B .operation-is) (B .expires-is)
     ∙ sym (slot-is r (absorb o e p))
+
+-- ---- an entry under another name
+
+pub renamed-fits : (r to : ResourceId) (p : Pending) → PendingFits document01 r p → PendingFits document01 to (renamed to p)
+unfolding renamed with-resource
+renamed-fits r to p ok = record {
+  resource-is = refl;
+  id = ok .id;
+  operation = ok .operation;
+  role = ok .role;
+  expires-at = ok .expires-at;
+  conflicts = ok .conflicts;
+  conflict-bytes = ok .conflict-bytes;
+  refused = ok .refused;
+  refused-bytes = ok .refused-bytes;
+  absorbed = ok .absorbed;
+}
+
+renamed-put : (r to : ResourceId) (p : Pending) → resourceId .Ok r → PendingFits document01 r p → placed 0 33 (name-slot to) (Slot r p) ≡ Slot to (renamed to p)
+unfolding renamed with-resource
+renamed-put r to p k ok = ap (placed 0 33 (name-slot to)) (slot-is r p) ∙ field-put 0 (fields r p) (name-slot to) (fields-long r p k ok) (omega arith) ∙ sym (slot-is to (renamed to p))
+
+whole-slot : (x : List ℕ) → length x ≡ 5940 → placed 0 5940 (padded 5940 x) (zeros 5940) ≡ x
+unfolding padded
+whole-slot x l =
+    let n : 5940 - length x ≡ 0 = omega arith in
+    let d : drop 5940 (zeros 5940) ≡ [] = drop-of-length-le (zeros 5940) {i = 5940} (omega (arith, length-replicate {A = ℕ} 5940 0)) in
+    ap₂ (λ (m : ℕ) (y : List ℕ). (x ++ zeros m) ++ y) n d ∙ append-nil (x ++ []) ∙ append-nil x
+
+pub moved-slot : (r to : ResourceId) (p : Pending) (b x : List ℕ) → resourceId .Ok r → PendingFits document01 r p → b ≡ name-slot to → resourceId .Ok to → x ≡ Slot r p
+    → placed 0 33 (padded 33 b) (placed 0 5940 (padded 5940 x) (zeros 5940)) ≡ Slot to (renamed to p)
+moved-slot r to p b x k ok n m e =
+    ap₂ (λ (y z : List ℕ). placed 0 33 y z) (full-name to b n m) (whole-slot x (ap length e ∙ slot-long r p k ok) ∙ e) ∙ renamed-put r to p k ok

@@ -36,7 +36,7 @@ use Rattle.state.specs.Layout.{padded, name-slot}
 use Rattle.state.specs.Fits.{PendingFits}
 use Rattle.state.specs.Contract.{state-length, Keeps, HasState, Reads, Edits, Tries}
 use Rattle.state.specs.Values.{name-of, Named}
-use Rattle.waiting.specs.Queues.{put-in, below, queue, put-queue, all-entries, nth, without, change-at, planned}
+use Rattle.waiting.specs.Queues.{put-in, below, queue, put-queue, all-entries, nth, without, change-at, planned, joined}
 use Rattle.waiting.specs.Slots.{Slots, HasSlots, ReadsSlots, EditsSlots, Rewrites, Opens, counts, tallied, rewritten, inserted, new-fields}
 use Rattle.waiting.specs.Entries.{EntryAt, EntryIs, FindsEntry, PlanBytes, EditBytes}
 use Rattle.waiting.proofs.Cuts.{Slot, Rows, Flat, Cut, flat-count}
@@ -291,28 +291,36 @@ inserted-set i x y t h = set-at (take i t) x (drop i t) y i (length-take-le i t 
 inserted-at : (i : ℕ) (x : List ℕ) (t : Table) → i ≤ length t → getD (inserted i x t) i [] ≡ x
 inserted-at i x t h = getD-at (take i t) x (drop i t) [] i (length-take-le i t h)
 
-pub appends : (r : ResourceId) (w w1 w2 b id operation role expiry : List ℕ) (a n i : ℕ) → Named b → name-of b ≡ r → HasState w → Reads all-entries w a → a < 6 → Reads (λ s. length (queue r s)) w n → Reads (λ s. below r (s .edits)) w i
-    → Opens (i + n) w w1 → EditsSlots (λ t. set t (i + n) (new-fields b id operation role expiry (getD t (i + n) []))) w1 w2
-    → (e : Edit) → EditBytes e r id operation role expiry
-    → Tries (λ s. leb (all-entries (put-queue r (queue r s ++ (new-pending e ∷ [])) s)) 6) (λ s. put-queue r (queue r s ++ (new-pending e ∷ [])) s) w true w2
-appends r w w1 w2 b id operation role expiry a n i M q H A l N I O F e B = record {
-  is = λ s h.
-      let c : a ≡ all-entries s = A .is s h in
-      let d : suc (all-entries s) ≡ all-entries (put-queue r (queue r s ++ (new-pending e ∷ [])) s) = sym (more-count r (new-pending e) h) in
-      sym (le-leb (all-entries (put-queue r (queue r s ++ (new-pending e ∷ [])) s)) 6 (omega arith));
-  makes = λ s h y.
+-- a slot opened behind the queue's own, and an entry written into it
+pub joins : (r : ResourceId) (w w1 w2 : List ℕ) (n i : ℕ) (F : List ℕ → List ℕ) (p : Pending) → resourceId .Ok r → Reads (λ s. length (queue r s)) w n → Reads (λ s. below r (s .edits)) w i
+    → Opens (i + n) w w1 → EditsSlots (λ t. set t (i + n) (F (getD t (i + n) []))) w1 w2 → F (zeros 5940) ≡ Slot r p → PendingFits document01 r p → Edits (joined r p) w w2
+joins r w w1 w2 n i F p k N I O E f ok = record {
+  makes = λ s h.
       let t : Table = Flat (s .edits) in
-      let k : resourceId .Ok r = subst (resourceId .Ok) q (M .ok) in
       let c : i + n ≡ below r (s .edits) + length (queue r s) = ap₂ _+_ (I .is s h) (N .is s h) in
       let d = splices.rows-count r h in
       let m : i + n ≤ length t = omega arith in
-      let u : Slots (inserted (i + n) (zeros 5940) t) w w1 = O .edits .makes t w (splices.slots-of h) in
-      let v : Slots (set (inserted (i + n) (zeros 5940) t) (i + n) (new-fields b id operation role expiry (getD (inserted (i + n) (zeros 5940) t) (i + n) []))) w w2 = F .makes (inserted (i + n) (zeros 5940) t) w u in
-      let x : new-fields b id operation role expiry (getD (inserted (i + n) (zeros 5940) t) (i + n) []) ≡ Slot r (new-pending e) =
-      ap (new-fields b id operation role expiry) (inserted-at (i + n) (zeros 5940) t m) ∙ fields.new-slot r e b id operation role expiry k (M .is ∙ ap name-slot q) B in
-      splices.appended r k h w2 (new-pending e) (fields.new-fits r e id operation role expiry B)
-      (subst (λ (z : Table). Slots z w w2) (ap (set (inserted (i + n) (zeros 5940) t) (i + n)) x ∙ inserted-set (i + n) (zeros 5940) (Slot r (new-pending e)) t m ∙ ap (λ (z : ℕ). inserted z (Slot r (new-pending e)) t) c) v);
+      let u : Table = inserted (i + n) (zeros 5940) t in
+      let v : Slots (set u (i + n) (F (getD u (i + n) []))) w w2 = E .makes u w (O .edits .makes t w (splices.slots-of h)) in
+      let x : F (getD u (i + n) []) ≡ Slot r p = ap F (inserted-at (i + n) (zeros 5940) t m) ∙ f in
+      splices.appended r k h w2 p ok
+      (subst (λ (z : Table). Slots z w w2) (ap (set u (i + n)) x ∙ inserted-set (i + n) (zeros 5940) (Slot r p) t m ∙ ap (λ (z : ℕ). inserted z (Slot r p) t) c) v);
 }
+
+pub appends : (r : ResourceId) (w w1 w2 b id operation role expiry : List ℕ) (a n i : ℕ) → Named b → name-of b ≡ r → Reads all-entries w a → a < 6 → Reads (λ s. length (queue r s)) w n → Reads (λ s. below r (s .edits)) w i
+    → Opens (i + n) w w1 → EditsSlots (λ t. set t (i + n) (new-fields b id operation role expiry (getD t (i + n) []))) w1 w2
+    → (e : Edit) → EditBytes e r id operation role expiry
+    → Tries (λ s. leb (all-entries (put-queue r (queue r s ++ (new-pending e ∷ [])) s)) 6) (λ s. put-queue r (queue r s ++ (new-pending e ∷ [])) s) w true w2
+appends r w w1 w2 b id operation role expiry a n i M q A l N I O F e B =
+    let k : resourceId .Ok r = subst (resourceId .Ok) q (M .ok) in
+    record {
+      is = λ s h.
+          let c : a ≡ all-entries s = A .is s h in
+          let d : suc (all-entries s) ≡ all-entries (put-queue r (queue r s ++ (new-pending e ∷ [])) s) = sym (more-count r (new-pending e) h) in
+          sym (le-leb (all-entries (put-queue r (queue r s ++ (new-pending e ∷ [])) s)) 6 (omega arith));
+      makes = λ s h y. joins r w w1 w2 n i (new-fields b id operation role expiry) (new-pending e) k N I O F (fields.new-slot r e b id operation role expiry k (M .is ∙ ap name-slot q) B)
+          (fields.new-fits r e id operation role expiry B) .makes s h;
+    }
 
 pub fills : (w w1 w2 w3 w4 w5 b id operation role expiry : List ℕ) (i : ℕ) → i < getD w 20002 0 → Rewrites i 0 33 b w w1 → Rewrites i 33 33 id w1 w2 → Rewrites i 66 1469 operation w2 w3
     → Rewrites i 1535 34 role w3 w4 → Rewrites i 1569 9 expiry w4 w5 → EditsSlots (λ t. set t i (new-fields b id operation role expiry (getD t i []))) w w5

@@ -7,3 +7,4 @@ pub mod Texts
 pub mod Keys
 pub mod Laws
 pub mod Folds
+pub mod Moves

@@ -73,3 +73,11 @@ change-last f q = match back q none: q some: (λ p. without-back q ++ (f p ∷ [
 -- whether the newest entry may absorb one edit more
 unfoldable pub may-absorb : Operation → Edit → Queue → Bool
 may-absorb operation e q = match back q none: true some: (λ p. leb (length (absorb operation e p .absorbed)) 8)
+
+-- an entry behind the others of r
+abbrev pub joined : ResourceId → Pending → SyncState → SyncState
+joined r p s = put-queue r (queue r s ++ (p ∷ [])) s
+
+-- the j-th entry of one queue leaves it and joins another under that one's name
+unfoldable pub moved : ResourceId → ℕ → ResourceId → SyncState → SyncState
+moved from j to s = match nth j (queue from s) none: s some: (λ p. joined to (renamed to p) (put-queue from (without j (queue from s)) s))

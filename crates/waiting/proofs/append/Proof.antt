@@ -56,7 +56,7 @@ same-length-2 : tie.Need-same-length-2
 same-length-2 c = search needs
 
 returns-2 : tie.Need-returns-2
-returns-2 c = laws.appends (name-of (c .before .before .before .before .before .before .before .before .before .before .before .before .before .before .before .before .before .before .before .before .args .name .bytes)) (c .before .before .before .before .before .before .before .before .before .before .before .before .before .before .before .before .before .before .before .before .args .work .now) (c .before .before .before .before .before .before .open-entry .last .0) (c .before .before .fill-entry .last .0) (c .before .before .before .before .before .before .before .before .before .before .before .before .before .before .before .before .before .before .before .before .args .name .bytes) (c .before .before .before .before .before .before .before .before .before .before .before .before .before .before .before .before .before .before .before .before .args .id .now) (c .before .before .before .before .before .before .before .before .before .before .before .before .before .before .before .before .before .before .before .before .args .operation .now) (c .before .before .before .before .before .before .before .before .before .before .before .before .before .before .before .before .before .before .before .before .args .role .now) (c .before .before .before .before .before .before .before .before .before .before .before .before .before .before .before .before .before .before .before .before .args .expiry .now) (c .before .before .before .before .before .before .before .before .before .before .before .before .before .entries .result) (c .before .before .before .before .before .before .before .before .waiting-count .result) (c .before .before .before .before .before .before .before .before .before .before .entries-before .result) (c .before .before .before .before .before .before .before .before .before .before .before .before .before .before .before .before .before .before .before .before .pre .1 .0) refl (c .before .before .before .before .before .before .before .before .before .before .before .before .before .before .before .before .before .before .before .before .pre .0) (c .before .before .before .before .before .before .before .before .before .before .before .before .before .entries .ensures) (search needs) (c .before .before .before .before .before .before .before .before .waiting-count .ensures) (c .before .before .before .before .before .before .before .before .before .before .entries-before .ensures) (c .before .before .before .before .before .before .open-entry .ensures) (c .before .before .fill-entry .ensures)
+returns-2 c = laws.appends (name-of (c .before .before .before .before .before .before .before .before .before .before .before .before .before .before .before .before .before .before .before .before .args .name .bytes)) (c .before .before .before .before .before .before .before .before .before .before .before .before .before .before .before .before .before .before .before .before .args .work .now) (c .before .before .before .before .before .before .open-entry .last .0) (c .before .before .fill-entry .last .0) (c .before .before .before .before .before .before .before .before .before .before .before .before .before .before .before .before .before .before .before .before .args .name .bytes) (c .before .before .before .before .before .before .before .before .before .before .before .before .before .before .before .before .before .before .before .before .args .id .now) (c .before .before .before .before .before .before .before .before .before .before .before .before .before .before .before .before .before .before .before .before .args .operation .now) (c .before .before .before .before .before .before .before .before .before .before .before .before .before .before .before .before .before .before .before .before .args .role .now) (c .before .before .before .before .before .before .before .before .before .before .before .before .before .before .before .before .before .before .before .before .args .expiry .now) (c .before .before .before .before .before .before .before .before .before .before .before .before .before .entries .result) (c .before .before .before .before .before .before .before .before .waiting-count .result) (c .before .before .before .before .before .before .before .before .before .before .entries-before .result) (c .before .before .before .before .before .before .before .before .before .before .before .before .before .before .before .before .before .before .before .before .pre .1 .0) refl (c .before .before .before .before .before .before .before .before .before .before .before .before .before .entries .ensures) (search needs) (c .before .before .before .before .before .before .before .before .waiting-count .ensures) (c .before .before .before .before .before .before .before .before .before .before .entries-before .ensures) (c .before .before .before .before .before .before .open-entry .ensures) (c .before .before .fill-entry .ensures)
 
 pub append-spec : {M : Type 1} → statement M
 append-spec =
