@@ -1,0 +1,41 @@
+use lib.ListN.{length, take, drop, getD, set}
+use Prim.Native.Nat.{ℕ, _+_, _-_, _*_, _≤_, _<_}
+use mathlib.Core.Path.{_≡_, refl, sym, ap, _∙_, subst}
+use Rattle.tables.proofs.Laws as tables
+use Rattle.state.proofs.Ops as ops
+use Rattle.waiting.proofs.Splices as splices
+use Rattle.waiting.proofs.Laws as laws
+use Rattle.waiting.proofs.Writes as writes
+use Rattle.state.specs.Values.{name-of}
+use native.Mathlib.Omega.{arith}
+use borrow.Author.Needs.{needs}
+use Rattle.waiting.proofs.clear_plan.Statement.{statement}
+use Rattle.waiting.proofs.clear_plan.Tie as tie
+use Rattle.waiting.proofs.clear_plan.Reads as reads
+use Rattle.waiting.proofs.clear_plan.Lts as lts
+use Rattle.waiting.proofs.set_plan.Reads as set-plan-reads
+
+slice-aggregate-set-plan : tie.Need-slice-aggregate-set-plan
+slice-aggregate-set-plan c = search needs
+
+slice-aggregate-set-plan-2 : tie.Need-slice-aggregate-set-plan-2
+slice-aggregate-set-plan-2 c = search needs
+
+set-plan-requires : tie.Need-set-plan-requires
+set-plan-requires c κs = search needs
+
+same-length : tie.Need-same-length
+same-length c = search needs
+
+returns : tie.Need-returns
+returns c = laws.unplans (name-of (c .before .before .before .before .before .before .before .args .name .bytes)) (c .before .before .before .before .before .before .before .args .work .now) (c .before .before .set-plan .last .0) (c .before .before .set-plan .ensures)
+
+pub clear-plan-spec : {M : Type 1} → statement M
+clear-plan-spec =
+    tie.close
+    (tie.spec
+    slice-aggregate-set-plan
+    slice-aggregate-set-plan-2
+    set-plan-requires
+    same-length
+    returns)

@@ -1,0 +1,28 @@
+use lib.ListN.{length, take, drop, getD, set}
+use Prim.Native.Nat.{ℕ, _+_, _-_, _*_, _≤_, _<_}
+use mathlib.Core.Path.{_≡_, refl, sym, ap, _∙_, subst}
+use Rattle.tables.proofs.Laws as tables
+use Rattle.state.proofs.Ops as ops
+use Rattle.waiting.proofs.Splices as splices
+use Rattle.waiting.proofs.Laws as laws
+use native.Mathlib.Omega.{arith}
+use borrow.Author.Needs.{needs}
+use Rattle.waiting.proofs.entries_before.Statement.{statement}
+use Rattle.waiting.proofs.entries_before.Tie as tie
+use Rattle.waiting.proofs.entries_before.Reads as reads
+use Rattle.waiting.proofs.entries_before.Lts as lts
+use Rattle.waiting.proofs.tally_in.Reads as tally-in-reads
+
+slice-aggregate-tally-in : tie.Need-slice-aggregate-tally-in
+slice-aggregate-tally-in c = search needs
+
+tally-in-requires : tie.Need-tally-in-requires
+tally-in-requires c κs =
+    let a = ops.named-long (c .before .before .before .args .name .bytes) (c .before .before .before .pre .1) in
+    (splices.has-slots (c .before .before .before .pre .0), omega arith)
+
+returns : tie.Need-returns
+returns c = splices.reads-before (c .before .before .before .before .args .name .bytes) (c .before .before .before .before .args .work .now) _ _ refl (c .tally-in .ensures)
+
+pub entries-before-spec : {M : Type 1} → statement M
+entries-before-spec = tie.close (tie.spec slice-aggregate-tally-in tally-in-requires returns)
