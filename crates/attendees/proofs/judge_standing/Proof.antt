@@ -1,0 +1,66 @@
+use Rattle.attendees.proofs.Laws as laws
+use Rattle.pens.proofs.Laws as pens
+use borrow.Author.Tests.{not-true, not-false}
+use mathlib.Core.Path.{_≡_, refl, sym, ap, _∙_, subst}
+use mathlib.Core.List.{List, [], _∷_, _++_, append-assoc, append-nil}
+use mathlib.Core.Bool.{Bool, true, false}
+use mathlib.Core.Logic.{⊎-elim}
+use Prim.Native.Nat.{ℕ, suc, _+_, _-_, _*_, _≤_, _<_}
+use native.Mathlib.Omega.{arith}
+use native.Mathlib.Numerals.{add-one}
+use borrow.Author.Needs.{needs}
+use borrow.Author.Tests.{lt-ltb, le-ltb, le-leb, lt-leb, eq-eqb, ne-eqb, ltb-true, ltb-false, leb-true, leb-false, eqb-true, eqb-false}
+use lib.ListN.{length, take, drop, set, getD, replicate, length-set, length-append, length-take, length-drop, length-replicate, take-append-drop}
+use lib.Seq.{take-length, drop-length, length-take-le, take-at, drop-at, take-append-le, drop-append-le, drop-cons, take-suc, take-all, drop-drop, take-take}
+use borrow.Author.Needs.{needs}
+use Rattle.attendees.proofs.judge_standing.Statement.{statement}
+use Rattle.attendees.proofs.judge_standing.Tie as tie
+use Rattle.attendees.proofs.judge_standing.Reads as reads
+use Rattle.attendees.proofs.judge_standing.Lts as lts
+use Rattle.attendees.proofs.reply.Reads as reply-reads
+use Rattle.attendees.proofs.reply_if.Reads as reply-if-reads
+use Rattle.attendees.proofs.rest_refused.Reads as rest-refused-reads
+use Rattle.attendees.proofs.verdict_byte.Reads as verdict-byte-reads
+use Rattle.comparison.proofs.is_conflict.Reads as is-conflict-reads
+use Rattle.comparison.proofs.is_ours.Reads as is-ours-reads
+
+rest-refused-requires : tie.Need-rest-refused-requires
+rest-refused-requires c κs = search needs
+
+reply-requires : tie.Need-reply-requires
+reply-requires c κs = search needs
+
+reply-requires-2 : tie.Need-reply-requires-2
+reply-requires-2 c κs = search needs
+
+reply-requires-3 : tie.Need-reply-requires-3
+reply-requires-3 c κs = search needs
+
+verdict-byte-requires : tie.Need-verdict-byte-requires
+verdict-byte-requires c κs = search needs
+
+is-ours-requires : tie.Need-is-ours-requires
+is-ours-requires c κs = search needs
+
+reply-if-requires : tie.Need-reply-if-requires
+reply-if-requires c κs = search needs
+
+is-conflict-requires : tie.Need-is-conflict-requires
+is-conflict-requires c κs = search needs
+
+returns : tie.Need-returns
+returns c = laws.standing-is (c .before .before .before .before .before .before .before .before .before .before .before .args .b .now) (c .before .before .before .before .before .before .before .before .before .before .before .args .o .now) (c .before .before .before .before .before .before .before .before .before .before .before .args .t .now) _ _ _ _ _ _ _ _ (c .before .before .before .before .before .before .before .rest-refused .ensures) (c .before .before .before .before .before .before .reply .ensures) (c .before .before .before .before .before .reply2 .ensures) (c .before .before .before .before .reply3 .ensures) (c .before .before .before .verdict-byte .ensures) (c .before .before .is-ours .ensures) (c .before .reply-if .ensures) (c .is-conflict .ensures)
+
+pub judge-standing-spec : {M : Type 1} → statement M
+judge-standing-spec =
+    tie.close
+    (tie.spec
+    rest-refused-requires
+    reply-requires
+    reply-requires-2
+    reply-requires-3
+    verdict-byte-requires
+    is-ours-requires
+    reply-if-requires
+    is-conflict-requires
+    returns)
