@@ -1,26 +1,28 @@
--- Laws of the attendees' part: one for each answer of each function, its premises the facts of the branches.
-use Prim.Native.Nat.{ℕ, zero, suc, _+_, _-_, _≤_, _<_}
+-- Laws of the attendees' part: one for each answer of each function, its premises the facts of the branches. Assumes nothing.
+use Prim.Native.Nat.{ℕ, suc, _+_, _-_, _≤_, _<_}
 use native.Mathlib.Omega.{arith}
 use native.Mathlib.Numerals.{add-one}
 use mathlib.Core.Path.{_≡_, refl, sym, ap, _∙_, subst}
-use mathlib.Core.List.{List, [], _∷_, _++_, append-nil, append-assoc}
-use mathlib.Core.Option.{Option, none, some}
-use mathlib.Core.Bool.{Bool, true, false, cond, not, _&&_, _||_}
+use mathlib.Core.List.{List, [], _∷_, _++_}
+use mathlib.Core.Option.{none, some}
+use mathlib.Core.Bool.{Bool, true, false, cond, not, _&&_}
 use lib.Dec.{leb, ltb, eqb}
-use lib.ListN.{length, getD, take, drop}
+use lib.ListN.{length, getD}
 use borrow.Author.Tests.{eq-eqb, ne-eqb, lt-ltb, le-ltb, le-leb, lt-leb}
-use Rattle.format.specs.Format.{Got, below, text, Lawful}
-use Rattle.model.specs.Formats.{attendeeF}
-use Rattle.frame.specs.Read.{skips, start, valueAt, valueOf, gotAt}
+use Rattle.format.specs.Format.{Got, below, text}
+use Rattle.model.specs.Limits.{max-attendees, max-text}
+use Rattle.model.specs.Maps.{same-text}
+use Rattle.model.specs.Formats.{shortText, attendeeF}
+use Rattle.model.proofs.FormatsLaws.{shortText-law}
+use Rattle.comparison.proofs.Laws.{same-nil, same-cons}
+use Rattle.frame.specs.Read.{skips, start, valueAt, valueOf}
 use Rattle.frame.specs.declared.Cursor.{Cursor}
-use Rattle.format.proofs.FormatLaws.{text-law}
-use Rattle.comparison.specs.Bytes.{sameBytes, sameFolded, verdictOf, isOurs, isConflict, isRefused, span}
+use Rattle.comparison.specs.Bytes.{sameFolded, verdictOf, isOurs, isConflict, isRefused, span}
 use Rattle.comparison.specs.declared.Verdict.{Verdict}
-use Rattle.comparison.specs.declared.Verdict.the-variants.{Theirs, Ours, Conflict, Refused}
+use Rattle.comparison.specs.declared.Verdict.the-variants.{Theirs, Ours, Conflict}
 use Rattle.pens.specs.Writing.{Wrote, Listed}
 use Rattle.pens.specs.declared.Pen.{Pen}
-use Rattle.pens.proofs.Laws.{listed-one, listed-none, listed-then, wrote-then}
-use Rattle.attendees.specs.Entries.{entryCount, entryAt, entryBytes, addressOf, oneIf, tallyOf, occurrenceOf, findFrom, findBytes, shownAddress, headOf, replyOf, kindOf, sameRest, judgeWhole, judgeRemoved, restRefused, replyVerdict, judgeStanding, judgeOwn, judgeOf, entryValueItems, sideBytes, entryRefused, entryConflict, entryItems, ownOf, keyItems, ourKeyItems, theirItems, ourItems, entriesItems}
+use Rattle.attendees.specs.Entries.{entryCount, entryAt, entryBytes, addressOf, oneIf, tallyOf, occurrenceOf, findFrom, findBytes, shownAddress, headOf, replyOf, kindOf, sameRest, judgeWhole, judgeRemoved, restRefused, judgeStanding, judgeOwn, judgeOf, entryValueItems, sideBytes, entryRefused, entryConflict, entryItems, ownOf, keyItems, ourKeyItems, theirItems, ourItems, entriesItems}
 use Rattle.attendees.specs.declared.Judged.{Judged}
 
 module _ (e : List ℕ) where
@@ -45,33 +47,41 @@ module _ (e : List ℕ) where
       let z : length e - 2 ≡ 0 = omega arith in
       rw z
 
+-- one byte compared
+pub one-byte : (x y : ℕ) → same-text (x ∷ []) (y ∷ []) ≡ eqb x y
+one-byte x y = same-cons x y [] [] ∙ rw same-nil (go (eqb x y))
+  where
+    go : (c : Bool) → (c && true) ≡ c
+    go true = refl
+    go false = refl
+
 module _ (b o t : ℕ) where
   pub byte-base : o ≡ b → Theirs ≡ verdictOf (b ∷ []) (o ∷ []) (t ∷ []) true
   unfolding verdictOf
-  byte-base e = rw (eq-eqb o b e)
+  byte-base e = rw (one-byte o b, eq-eqb o b e)
 
   pub byte-theirs : (o ≡ b → ⊥) → o ≡ t → Theirs ≡ verdictOf (b ∷ []) (o ∷ []) (t ∷ []) true
   unfolding verdictOf
-  byte-theirs e f = rw (ne-eqb o b e, eq-eqb o t f)
+  byte-theirs e f = rw (one-byte o b, one-byte o t, ne-eqb o b e, eq-eqb o t f)
 
   pub byte-ours : (o ≡ b → ⊥) → (o ≡ t → ⊥) → t ≡ b → Ours ≡ verdictOf (b ∷ []) (o ∷ []) (t ∷ []) true
   unfolding verdictOf
-  byte-ours e f g = rw (ne-eqb o b e, ne-eqb o t f, eq-eqb t b g)
+  byte-ours e f g = rw (one-byte o b, one-byte o t, one-byte t b, ne-eqb o b e, ne-eqb o t f, eq-eqb t b g)
 
   pub byte-conflict : (o ≡ b → ⊥) → (o ≡ t → ⊥) → (t ≡ b → ⊥) → Conflict ≡ verdictOf (b ∷ []) (o ∷ []) (t ∷ []) true
   unfolding verdictOf
-  byte-conflict e f g = rw (ne-eqb o b e, ne-eqb o t f, ne-eqb t b g)
+  byte-conflict e f g = rw (one-byte o b, one-byte o t, one-byte t b, ne-eqb o b e, ne-eqb o t f, ne-eqb t b g)
 
-pub count-is : (s : List ℕ) (n : ℕ) → n ≡ valueAt (below 9) 0 s start → n ≡ entryCount s
-unfolding entryCount
+pub count-is : (s : List ℕ) (n : ℕ) → n ≡ valueAt (below (suc 8)) 0 s start → n ≡ entryCount s
+unfolding entryCount max-attendees
 count-is s n e = e
 
 pub address-is : (s r : List ℕ) → r ≡ valueAt (text 32) [] s start → r ≡ addressOf s
-unfolding addressOf
+unfolding addressOf max-text
 address-is s r e = e
 
-pub at-zero : (s : List ℕ) (c : Cursor) → c ≡ skips (below 9) s start → c ≡ entryAt s 0
-unfolding entryAt
+pub at-zero : (s : List ℕ) (c : Cursor) → c ≡ skips (below (suc 8)) s start → c ≡ entryAt s 0
+unfolding entryAt max-attendees
 at-zero s c e = e
 
 pub at-next : (s : List ℕ) (j : ℕ) (c d : Cursor) → c ≡ entryAt s j → d ≡ skips attendeeF s c → d ≡ entryAt s (j + 1)
@@ -103,17 +113,17 @@ module _ (b o t : List ℕ) where
   unfolding shownAddress
   shown-base g h r e = rw (le-ltb 0 (length t) g, le-ltb 0 (length o) h) e
 
-text-ok : (r : List ℕ) → text 32 .Ok r → length r ≤ 32
-unfolding text
-text-ok r h = h .0
+text-ok : (r : List ℕ) → shortText .Ok r → length r ≤ 255
+unfolding text max-text
+text-ok r h = let l = h .0 in omega arith
 
-pub address-short : (s : List ℕ) → length (addressOf s) ≤ 32
+address-short : (s : List ℕ) → length (addressOf s) ≤ 255
 unfolding addressOf valueAt
-address-short s = go (text 32 .dec s) refl
+address-short s = go (shortText .dec s) refl
   where
-    go : (x : Got (List ℕ)) → text 32 .dec s ≡ x → length (valueOf [] x) ≤ 32
+    go : (x : Got (List ℕ)) → shortText .dec s ≡ x → length (valueOf [] x) ≤ 255
     go none e = omega arith
-    go (some r) e = text-ok (r .0) (text-law 32 .reads s r e .1)
+    go (some r) e = text-ok (r .0) (shortText-law .reads s r e .1)
 
 pub shown-short : (b o t r : List ℕ) → r ≡ shownAddress b o t → length r ≤ 255
 unfolding shownAddress
@@ -125,17 +135,17 @@ shown-short b o t r e = rw e (go (ltb 0 (length t)) (ltb 0 (length o)))
     go false false = let h = address-short b in omega arith
 
 -- the rest of an entry
-module _ (a b x y : List ℕ) (r : Bool) (e : r ≡ sameBytes x y) (f : x ≡ headOf a) (g : y ≡ headOf b) where
+module _ (a b x y : List ℕ) (r : Bool) (e : r ≡ same-text x y) (f : x ≡ headOf a) (g : y ≡ headOf b) where
   pub rest-heads : r ≡ true → (k l : ℕ) → k ≡ kindOf a → l ≡ kindOf b → eqb k l ≡ sameRest a b
   unfolding sameRest
   rest-heads t k l i j =
-      let h : sameBytes (headOf a) (headOf b) ≡ true = rw (← f, ← g, ← e) t in
+      let h : same-text (headOf a) (headOf b) ≡ true = rw (← f, ← g, ← e) t in
       rw (h, i, j)
 
   pub rest-differs : r ≡ false → false ≡ sameRest a b
   unfolding sameRest
   rest-differs t =
-      let h : sameBytes (headOf a) (headOf b) ≡ false = rw (← f, ← g, ← e) t in
+      let h : same-text (headOf a) (headOf b) ≡ false = rw (← f, ← g, ← e) t in
       rw h
 
 pub removed-is : (b o : List ℕ) (x d : Bool) (p q : ℕ) → x ≡ sameRest b o → p ≡ replyOf b → q ≡ replyOf o → d ≡ not (eqb p q)

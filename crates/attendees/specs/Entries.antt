@@ -5,26 +5,28 @@ use mathlib.Core.List.{List, [], _∷_, _++_}
 use mathlib.Core.Bool.{Bool, true, false, cond, not, _&&_, _||_}
 use lib.Dec.{leb, ltb, eqb}
 use lib.ListN.{length, take, getD}
-use Rattle.format.specs.Format.{below, text}
-use Rattle.model.specs.Formats.{attendeeF}
+use Rattle.format.specs.Format.{below}
+use Rattle.model.specs.Limits.{max-attendees}
+use Rattle.model.specs.Maps.{same-text}
+use Rattle.model.specs.Formats.{shortText, attendeeF}
 use Rattle.frame.specs.Read.{skips, start, valueAt}
 use Rattle.frame.specs.declared.Cursor.{Cursor}
-use Rattle.comparison.specs.Bytes.{sameBytes, sameFolded, verdictOf, isOurs, isConflict, isRefused, span}
+use Rattle.comparison.specs.Bytes.{sameFolded, verdictOf, isOurs, isConflict, isRefused, span}
 use Rattle.comparison.specs.declared.Verdict.{Verdict}
 use Rattle.attendees.specs.declared.Judged.{Judged}
 
 unfoldable pub entryCount : List ℕ → ℕ
-entryCount s = valueAt (below 9) 0 s start
+entryCount s = valueAt (below (suc max-attendees)) 0 s start
 
 unfoldable pub entryAt : List ℕ → ℕ → Cursor
-entryAt s zero = skips (below 9) s start
+entryAt s zero = skips (below (suc max-attendees)) s start
 entryAt s (suc i) = skips attendeeF s (entryAt s i)
 
 unfoldable pub entryBytes : List ℕ → ℕ → List ℕ
 entryBytes s i = cond (leb (entryCount s) i) [] (span s (entryAt s i .at) (skips attendeeF s (entryAt s i) .at))
 
 unfoldable pub addressOf : List ℕ → List ℕ
-addressOf entry = valueAt (text 32) [] entry start
+addressOf entry = valueAt shortText [] entry start
 
 abbrev pub oneIf : Bool → ℕ
 oneIf true = 1
@@ -60,7 +62,7 @@ unfoldable pub kindOf : List ℕ → ℕ
 kindOf e = cond (ltb (length e) 2) 0 (getD e (length e - 1) 0)
 
 unfoldable pub sameRest : List ℕ → List ℕ → Bool
-sameRest a b = sameBytes (headOf a) (headOf b) && eqb (kindOf a) (kindOf b)
+sameRest a b = same-text (headOf a) (headOf b) && eqb (kindOf a) (kindOf b)
 
 -- a unit's judgement
 

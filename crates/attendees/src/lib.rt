@@ -1,32 +1,32 @@
+// The attendees of the merge: entries paired by folded address and occurrence, judged, and written. A list is its count and its
+// entries; an entry that is absent is no bytes.
 ghost use mathlib.Core.Path.{_≡_};
-ghost use mathlib.Core.List.{[], _∷_, _++_};
-ghost use Prim.Native.Nat.{_+_, _-_, _≤_, _<_};
-ghost use lib.ListN.{length};
-ghost use Rattle.frame.specs.Read.{skips, start};
-ghost use Rattle.comparison.specs.Bytes.{sameFolded, verdictOf, span};
-ghost use Rattle.pens.specs.Writing.{Wrote, Listed};
+ghost use mathlib.Core.List.{[], _∷_};
 ghost use mathlib.Core.Bool.{true, cond, not, _&&_};
+ghost use Prim.Native.Nat.{_+_, _-_, _<_};
 ghost use lib.Dec.{eqb};
+ghost use Rattle.comparison.specs.Bytes.{verdictOf};
+ghost use Rattle.pens.specs.Writing.{Wrote, Listed};
 ghost use Rattle.attendees.specs.Entries.{entryCount, entryAt, entryBytes, addressOf, oneIf, occurrenceOf, findBytes, shownAddress, headOf, replyOf, kindOf, sameRest, judgeWhole, judgeOwn, judgeRemoved, restRefused, judgeStanding, judgeOf, entryValueItems, sideBytes, entryConflict, entryRefused, entryItems, ownOf, keyItems, ourKeyItems, theirItems, ourItems, entriesItems};
 
-use frame::Cursor;
 use comparison::Verdict;
+use frame::Cursor;
+use frame::MAX_ATTENDEES;
+use frame::MAX_TEXT;
 use pens::Pen;
 use pens::Sheet;
-
-// Attendees. A list is its count and its entries; an entry that is absent is no bytes.
 
 fn entry_count(list: &[u8]) -> u8
     ensures { λ r. ⌜ r ≡ entryCount (now (list .entry)) ⌝ }
 {
-    let c = Cursor { at: 0, ok: true }.byte(list, 9);
+    let c = Cursor { at: 0, ok: true }.count(list, MAX_ATTENDEES);
     c.value
 }
 
 fn entry_at(list: &[u8], i: u8) -> Cursor
     ensures { λ r. ⌜ r ≡ entryAt (now (list .entry)) i ⌝ }
 {
-    let count = Cursor { at: 0, ok: true }.byte(list, 9);
+    let count = Cursor { at: 0, ok: true }.count(list, MAX_ATTENDEES);
     let mut c = count.next;
     let mut j: u8 = 0;
     while j < i {
@@ -53,7 +53,7 @@ fn entry_part(list: &[u8], i: u8) -> &[u8]
 fn address(entry: &[u8]) -> &[u8]
     ensures { λ r. ⌜ now r ≡ addressOf (now (entry .entry)) ⌝ }
 {
-    frame::text_part(entry, 32)
+    frame::text_part(entry, MAX_TEXT)
 }
 
 // How many entries before the i-th have its folded address.

@@ -1,28 +1,7 @@
 use Rattle.attendees.proofs.Laws as laws
-use Rattle.pens.proofs.Laws as pens
-use borrow.Author.Tests.{not-true, not-false}
-use mathlib.Core.Path.{_≡_, refl, sym, ap, _∙_, subst}
-use mathlib.Core.List.{List, [], _∷_, _++_, append-assoc, append-nil}
-use mathlib.Core.Bool.{Bool, true, false}
-use mathlib.Core.Logic.{⊎-elim}
-use Prim.Native.Nat.{ℕ, suc, _+_, _-_, _*_, _≤_, _<_}
-use native.Mathlib.Omega.{arith}
-use native.Mathlib.Numerals.{add-one}
-use borrow.Author.Needs.{needs}
-use borrow.Author.Tests.{lt-ltb, le-ltb, le-leb, lt-leb, eq-eqb, ne-eqb, ltb-true, ltb-false, leb-true, leb-false, eqb-true, eqb-false}
-use lib.ListN.{length, take, drop, set, getD, replicate, length-set, length-append, length-take, length-drop, length-replicate, take-append-drop}
-use lib.Seq.{take-length, drop-length, length-take-le, take-at, drop-at, take-append-le, drop-append-le, drop-cons, take-suc, take-all, drop-drop, take-take}
 use borrow.Author.Needs.{needs}
 use Rattle.attendees.proofs.judge_standing.Statement.{statement}
 use Rattle.attendees.proofs.judge_standing.Tie as tie
-use Rattle.attendees.proofs.judge_standing.Reads as reads
-use Rattle.attendees.proofs.judge_standing.Lts as lts
-use Rattle.attendees.proofs.reply.Reads as reply-reads
-use Rattle.attendees.proofs.reply_if.Reads as reply-if-reads
-use Rattle.attendees.proofs.rest_refused.Reads as rest-refused-reads
-use Rattle.attendees.proofs.verdict_byte.Reads as verdict-byte-reads
-use Rattle.comparison.proofs.is_conflict.Reads as is-conflict-reads
-use Rattle.comparison.proofs.is_ours.Reads as is-ours-reads
 
 rest-refused-requires : tie.Need-rest-refused-requires
 rest-refused-requires c κs = search needs

@@ -1,28 +1,13 @@
 use Rattle.pens.specs.Writing.{Listed}
-use Rattle.attendees.specs.Entries.{theirItems, ourItems}
+use Rattle.attendees.specs.Entries.{theirItems}
 use Rattle.attendees.proofs.Laws as laws
 use Rattle.pens.proofs.Laws as pens
-use borrow.Author.Tests.{not-true, not-false}
-use mathlib.Core.Path.{_≡_, refl, sym, ap, _∙_, subst}
-use mathlib.Core.List.{List, [], _∷_, _++_, append-assoc, append-nil}
-use mathlib.Core.Bool.{Bool, true, false}
-use mathlib.Core.Logic.{⊎-elim}
-use Prim.Native.Nat.{ℕ, suc, _+_, _-_, _*_, _≤_, _<_}
+use mathlib.Core.Path.{_≡_, ap, _∙_}
+use Prim.Native.Nat.{_-_, _≤_}
 use native.Mathlib.Omega.{arith}
-use native.Mathlib.Numerals.{add-one}
 use borrow.Author.Needs.{needs}
-use borrow.Author.Tests.{lt-ltb, le-ltb, le-leb, lt-leb, eq-eqb, ne-eqb, ltb-true, ltb-false, leb-true, leb-false, eqb-true, eqb-false}
-use lib.ListN.{length, take, drop, set, getD, replicate, length-set, length-append, length-take, length-drop, length-replicate, take-append-drop}
-use lib.Seq.{take-length, drop-length, length-take-le, take-at, drop-at, take-append-le, drop-append-le, drop-cons, take-suc, take-all, drop-drop, take-take}
 use Rattle.attendees.proofs.their_entries.Statement.{statement}
 use Rattle.attendees.proofs.their_entries.Tie as tie
-use Rattle.attendees.proofs.their_entries.Reads as reads
-use Rattle.attendees.proofs.their_entries.Lts as lts
-use Rattle.attendees.proofs.address.Reads as address-reads
-use Rattle.attendees.proofs.entry_count.Reads as entry-count-reads
-use Rattle.attendees.proofs.entry_of.Reads as entry-of-reads
-use Rattle.attendees.proofs.entry_part.Reads as entry-part-reads
-use Rattle.attendees.proofs.occurrence.Reads as occurrence-reads
 
 abbrev Inv-loop : tie.InvT-loop
 Inv-loop out₀ which owner me base ours theirs h₀ count i₀ out h i = (i ≤ count) × Listed out₀ out (h₀ .pen) (h₀ .count) (h .pen) (h .count) (theirItems which owner me base ours theirs i)
