@@ -2,12 +2,16 @@
 -- that is absent is no bytes. Assumes nothing.
 use Prim.Native.Nat.{ℕ, zero, suc, _+_, _-_}
 use mathlib.Core.List.{List, [], _∷_, _++_}
+use mathlib.Core.Option.{Option, none, some}
+use mathlib.Core.Path.{_≡_}
 use mathlib.Core.Bool.{Bool, true, false, cond, not, _&&_, _||_}
 use lib.Dec.{leb, ltb, eqb}
 use lib.ListN.{length, take, getD}
-use Rattle.format.specs.Format.{below}
+use Rattle.format.specs.Format.{below, option}
+use Rattle.model.specs.Event.{Attendee}
 use Rattle.model.specs.Limits.{max-attendees}
 use Rattle.model.specs.Maps.{same-text}
+use Rattle.model.specs.Merge.{display-address}
 use Rattle.model.specs.Formats.{shortText, attendeeF}
 use Rattle.frame.specs.Read.{skips, start, valueAt}
 use Rattle.frame.specs.declared.Cursor.{Cursor}
@@ -51,6 +55,17 @@ findBytes s wanted n = findFrom s wanted n 0 (entryCount s)
 
 unfoldable pub shownAddress : List ℕ → List ℕ → List ℕ → List ℕ
 shownAddress b o t = cond (ltb 0 (length t)) (addressOf t) (cond (ltb 0 (length o)) (addressOf o) (addressOf b))
+
+-- an entry's bytes: none where it is absent
+abbrev pub entryEnc : Option Attendee → List ℕ
+entryEnc none = []
+entryEnc (some a) = attendeeF .enc a
+
+-- r is the address that is shown for the entries whose bytes these are
+pub record Shown (base ours theirs r : List ℕ) : Type 0 where
+  pub bytes : r ≡ shownAddress base ours theirs
+  pub means : (b o t : Option Attendee) → option attendeeF .Ok b → option attendeeF .Ok o → option attendeeF .Ok t
+      → base ≡ entryEnc b → ours ≡ entryEnc o → theirs ≡ entryEnc t → r ≡ display-address b o t
 
 abbrev pub headOf : List ℕ → List ℕ
 headOf e = take (length e - 2) e

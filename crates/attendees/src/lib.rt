@@ -7,7 +7,7 @@ ghost use Prim.Native.Nat.{_+_, _-_, _<_};
 ghost use lib.Dec.{eqb};
 ghost use Rattle.comparison.specs.Bytes.{verdictOf};
 ghost use Rattle.pens.specs.Writing.{Wrote, Listed};
-ghost use Rattle.attendees.specs.Entries.{entryCount, entryAt, entryBytes, addressOf, oneIf, occurrenceOf, findBytes, shownAddress, headOf, replyOf, kindOf, sameRest, judgeWhole, judgeOwn, judgeRemoved, restRefused, judgeStanding, judgeOf, entryValueItems, sideBytes, entryConflict, entryRefused, entryItems, ownOf, keyItems, ourKeyItems, theirItems, ourItems, entriesItems};
+ghost use Rattle.attendees.specs.Entries.{entryCount, entryAt, entryBytes, addressOf, oneIf, occurrenceOf, findBytes, Shown, headOf, replyOf, kindOf, sameRest, judgeWhole, judgeOwn, judgeRemoved, restRefused, judgeStanding, judgeOf, entryValueItems, sideBytes, entryConflict, entryRefused, entryItems, ownOf, keyItems, ourKeyItems, theirItems, ourItems, entriesItems};
 
 use comparison::Verdict;
 use frame::Cursor;
@@ -122,7 +122,7 @@ fn find_entry<'a>(list: &'a [u8], wanted: &[u8], n: u8) -> &'a [u8]
 
 // The address to report for an entry: theirs' spelling where it has one, else ours', else base's.
 pub fn display_address<'a>(base: &'a [u8], ours: &'a [u8], theirs: &'a [u8]) -> &'a [u8]
-    ensures { λ r. ⌜ now r ≡ shownAddress (now (base .entry)) (now (ours .entry)) (now (theirs .entry)) ⌝ }
+    ensures { λ r. ⌜ Shown (now (base .entry)) (now (ours .entry)) (now (theirs .entry)) (now r) ⌝ }
 {
     if 0 < theirs.len() {
         return address(theirs);

@@ -18,7 +18,7 @@ display-address-requires : tie.Need-display-address-requires
 display-address-requires c κs = search needs
 
 text-requires : tie.Need-text-requires
-text-requires c κs = laws.shown-short (c .before .before .before .before .before .before .before .before .before .before .before .before .before .before .before .args .b .now) (c .before .before .before .before .before .before .before .before .before .before .before .before .before .before .before .args .o .now) (c .before .before .before .before .before .before .before .before .before .before .before .before .before .before .before .args .t .now) _ (c .display-address .ensures)
+text-requires c κs = laws.shown-short (c .before .before .before .before .before .before .before .before .before .before .before .before .before .before .before .args .b .now) (c .before .before .before .before .before .before .before .before .before .before .before .before .before .before .before .args .o .now) (c .before .before .before .before .before .before .before .before .before .before .before .before .before .before .before .args .t .now) _ (c .display-address .ensures .bytes)
 
 more-requires : tie.Need-more-requires
 more-requires c κs = search needs
@@ -27,7 +27,7 @@ same-length : tie.Need-same-length
 same-length c = search needs
 
 returns : tie.Need-returns
-returns c = laws.listed-as (pens.listed-one _ _ (pens.wrote-then (c .before .before .before .before .before .before .before .before .before .before .before .before .byte .ensures) (pens.wrote-then (c .before .before .before .before .before .before .before .before .byte2 .ensures) (c .before .before .before .text .ensures))) (c .more .ensures)) (ap (λ (a : List ℕ). (4 ∷ 1 ∷ length a ∷ a) ∷ []) (c .before .before .before .before .display-address .ensures))
+returns c = laws.listed-as (pens.listed-one _ _ (pens.wrote-then (c .before .before .before .before .before .before .before .before .before .before .before .before .byte .ensures) (pens.wrote-then (c .before .before .before .before .before .before .before .before .byte2 .ensures) (c .before .before .before .text .ensures))) (c .more .ensures)) (ap (λ (a : List ℕ). (4 ∷ 1 ∷ length a ∷ a) ∷ []) (c .before .before .before .before .display-address .ensures .bytes))
 
 pub entry-refused-spec : {M : Type 1} → statement M
 entry-refused-spec =
