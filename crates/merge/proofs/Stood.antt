@@ -1,17 +1,31 @@
--- A value of a format stands at a place: what is skipped there, and which bytes those are.
-use Prim.Native.Nat.{ℕ, zero, suc, _+_, _-_, _≤_, _<_}
+-- A value of a format stands at a place: what is skipped there, and which bytes those are. Assumes nothing.
+use Prim.Native.Nat.{ℕ, _+_, _-_, _≤_}
 use native.Mathlib.Omega.{arith}
-use mathlib.Core.Path.{_≡_, refl, sym, ap, _∙_, subst}
-use mathlib.Core.List.{List, [], _∷_, _++_, append-assoc}
-use mathlib.Core.Option.{Option, none, some}
-use mathlib.Core.Bool.{Bool, true, false}
+use mathlib.Core.Path.{_≡_, refl, sym, ap, _∙_}
+use mathlib.Core.List.{List, [], _++_, append-assoc, append-nil}
+use mathlib.Core.Option.{some}
+use mathlib.Core.Bool.{true}
 use lib.ListN.{length, take, drop, length-append, length-drop}
 use lib.Seq.{take-at, drop-at, drop-drop}
-use Rattle.format.specs.Format.{Got, Format, Lawful, _⊗_, via}
+use Rattle.format.specs.Format.{Format, Lawful, _⊗_, via}
 use Rattle.frame.specs.Read.{skips, stepped, gotAt, start}
 use Rattle.frame.specs.declared.Cursor.{Cursor}
 use Rattle.comparison.specs.Bytes.{span}
-use Rattle.merge.specs.Front.{Stood}
+use Rattle.merge.specs.Given.{Begins}
+
+pub record Stood {A : Type 0} (f : Format A) (s : List ℕ) (c : Cursor) (v : A) : Type 0 where
+  pub ok : c .ok ≡ true
+  pub fits : c .at ≤ length s
+  pub tail : List ℕ
+  pub is : drop (c .at) s ≡ f .enc v ++ tail
+  pub fine : f .Ok v
+
+pub stood-start : {A : Type 0} {f : Format A} {s : List ℕ} {v : A} → Begins f s v → Stood f s start v
+stood-start B = record { ok = refl; fits = omega arith; tail = B .rest; is = B .bytes; fine = B .fits }
+
+-- the bytes of a value alone
+pub stood-alone : {A : Type 0} {f : Format A} {s : List ℕ} {v : A} → f .Ok v → s ≡ f .enc v → Stood f s start v
+stood-alone h e = record { ok = refl; fits = omega arith; tail = []; is = e ∙ sym (append-nil _); fine = h }
 
 module _ {A : Type 0} {f : Format A} (F : Lawful f) {s : List ℕ} {c : Cursor} {v : A} (S : Stood f s c v) where
   pub counted : length s ≡ c .at + (length (f .enc v) + length (S .tail))

@@ -1,6 +1,6 @@
 -- What is written of a merge: the merged fields, and the items of the conflicts (1) and of the refused (2). Assumes nothing.
 use Prim.Native.Nat.{ℕ}
-use mathlib.Core.List.{List, [], _∷_, _++_}
+use mathlib.Core.List.{List, _∷_, _++_}
 use mathlib.Core.Bool.{Bool}
 use Rattle.pens.specs.Writing.{flat}
 use Rattle.units.specs.Units.{unitBytes, unitsItems}
@@ -16,4 +16,5 @@ module _ (which : ℕ) (owner : Bool) (me base ours theirs : List ℕ) where
 -- of n attendees
 unfoldable pub fieldBytes : ℕ → Bool → (me base ours theirs : List ℕ) → List ℕ
 fieldBytes n owner me base ours theirs =
-    flat (unitsItems 0 owner base ours theirs 0 4) ++ (n ∷ (flat (attendeeItems 0 owner me base ours theirs) ++ flat (unitsItems 0 owner base ours theirs 5 6)))
+    flat (unitsItems 0 owner base ours theirs 0 4)
+    ++ (n ∷ (flat (attendeeItems 0 owner me base ours theirs) ++ flat (unitsItems 0 owner base ours theirs 5 6)))

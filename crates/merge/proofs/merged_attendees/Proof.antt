@@ -1,52 +1,29 @@
-use Rattle.merge.proofs.Merging.{count-is, fields-are}
 use Rattle.merge.proofs.Laws as laws
-use Rattle.pens.proofs.Laws as pens
-use mathlib.Core.Path.{_≡_, refl, sym, ap, _∙_, subst}
-use mathlib.Core.List.{List, [], _∷_, _++_, append-assoc, append-nil}
-use mathlib.Core.Bool.{Bool, true, false}
-use mathlib.Core.Logic.{⊎-elim}
-use Prim.Native.Nat.{ℕ, suc, _+_, _-_, _*_, _≤_, _<_}
-use native.Mathlib.Omega.{arith}
-use native.Mathlib.Numerals.{add-one}
-use borrow.Author.Needs.{needs}
-use borrow.Author.Tests.{lt-ltb, le-ltb, le-leb, lt-leb, eq-eqb, ne-eqb, ltb-true, ltb-false, leb-true, leb-false, eqb-true, eqb-false}
-use lib.ListN.{length, take, drop, set, getD, replicate, length-set, length-append, length-take, length-drop, length-replicate, take-append-drop}
-use lib.Seq.{take-length, drop-length, length-take-le, take-at, drop-at, take-append-le, drop-append-le, drop-cons, take-suc, take-all, drop-drop, take-take}
 use borrow.Author.Needs.{needs}
 use Rattle.merge.proofs.merged_attendees.Statement.{statement}
 use Rattle.merge.proofs.merged_attendees.Tie as tie
-use Rattle.merge.proofs.merged_attendees.Reads as reads
-use Rattle.merge.proofs.merged_attendees.Lts as lts
-use Rattle.attendees.proofs.entries.Reads as entries-reads
-use Rattle.units.proofs.unit_part.Reads as unit-part-reads
 
-unit-part-requires : tie.Need-unit-part-requires
-unit-part-requires c κs = search needs
+is-owner-requires : tie.Need-is-owner-requires
+is-owner-requires c κs = search needs
 
-unit-part-requires-2 : tie.Need-unit-part-requires-2
-unit-part-requires-2 c κs = search needs
+writer-requires : tie.Need-writer-requires
+writer-requires c κs = search needs
 
-unit-part-requires-3 : tie.Need-unit-part-requires-3
-unit-part-requires-3 c κs = search needs
+fields-of-requires : tie.Need-fields-of-requires
+fields-of-requires c κs = search needs
 
-entries-requires : tie.Need-entries-requires
-entries-requires c κs = search needs
-
-same-length : tie.Need-same-length
-same-length c = search needs
+count-attendees-requires : tie.Need-count-attendees-requires
+count-attendees-requires c κs = search needs
 
 returns : tie.Need-returns
-returns c = 
-    let d = laws.counted (c .before .before .entries .ensures) (laws.attendees-are (c .before .before .before .before .before .before .before .before .before .before .before .before .args .owner) (c .before .before .before .before .before .before .before .before .before .before .before .before .args .me .now) (c .before .before .before .before .before .before .before .before .before .before .before .before .args .base .now) (c .before .before .before .before .before .before .before .before .before .before .before .before .args .ours .now) (c .before .before .before .before .before .before .before .before .before .before .before .before .args .theirs .now) _ _ _ (c .before .before .before .before .before .unit-part .ensures) (c .before .before .before .before .unit-part2 .ensures) (c .before .before .before .unit-part3 .ensures) 0) in
-    (λ b o t B O R h. d .0 (rw (count-is (c .before .before .before .before .before .before .before .before .before .before .before .before .args .owner) (c .before .before .before .before .before .before .before .before .before .before .before .before .args .me .now) B O R) h) ∙ count-is (c .before .before .before .before .before .before .before .before .before .before .before .before .args .owner) (c .before .before .before .before .before .before .before .before .before .before .before .before .args .me .now) B O R, d .1)
+returns c = λ b o t by G. laws.attendees-count G (c .before .before .before .is-owner .ensures) (c .before .before .writer .ensures) (c .before .fields-of .ensures) _ (c .count-attendees .ensures)
 
 pub merged-attendees-spec : {M : Type 1} → statement M
 merged-attendees-spec =
     tie.close
     (tie.spec
-    unit-part-requires
-    unit-part-requires-2
-    unit-part-requires-3
-    entries-requires
-    same-length
+    is-owner-requires
+    writer-requires
+    fields-of-requires
+    count-attendees-requires
     returns)

@@ -1,24 +1,8 @@
 use Rattle.merge.proofs.Laws as laws
 use Rattle.pens.proofs.Laws as pens
-use mathlib.Core.Path.{_≡_, refl, sym, ap, _∙_, subst}
-use mathlib.Core.List.{List, [], _∷_, _++_, append-assoc, append-nil}
-use mathlib.Core.Bool.{Bool, true, false}
-use mathlib.Core.Logic.{⊎-elim}
-use Prim.Native.Nat.{ℕ, suc, _+_, _-_, _*_, _≤_, _<_}
-use native.Mathlib.Omega.{arith}
-use native.Mathlib.Numerals.{add-one}
-use borrow.Author.Needs.{needs}
-use borrow.Author.Tests.{lt-ltb, le-ltb, le-leb, lt-leb, eq-eqb, ne-eqb, ltb-true, ltb-false, leb-true, leb-false, eqb-true, eqb-false}
-use lib.ListN.{length, take, drop, set, getD, replicate, length-set, length-append, length-take, length-drop, length-replicate, take-append-drop}
-use lib.Seq.{take-length, drop-length, length-take-le, take-at, drop-at, take-append-le, drop-append-le, drop-cons, take-suc, take-all, drop-drop, take-take}
 use borrow.Author.Needs.{needs}
 use Rattle.merge.proofs.reports.Statement.{statement}
 use Rattle.merge.proofs.reports.Tie as tie
-use Rattle.merge.proofs.reports.Reads as reads
-use Rattle.merge.proofs.reports.Lts as lts
-use Rattle.attendees.proofs.entries.Reads as entries-reads
-use Rattle.units.proofs.unit_part.Reads as unit-part-reads
-use Rattle.units.proofs.units.Reads as units-reads
 
 units-requires : tie.Need-units-requires
 units-requires c κs = search needs
