@@ -144,8 +144,8 @@ module _ (which : ℕ) (owner : Bool) (me base ours theirs : List ℕ) where
   unfoldable pub keyItems : List ℕ → ℕ → List (List ℕ)
   keyItems wanted n =
       entryItems which
-        (judgeOf (ownOf owner me wanted) owner (findBytes base wanted n) (findBytes ours wanted n) (findBytes theirs wanted n))
-        (findBytes base wanted n) (findBytes ours wanted n) (findBytes theirs wanted n)
+      (judgeOf (ownOf owner me wanted) owner (findBytes base wanted n) (findBytes ours wanted n) (findBytes theirs wanted n))
+      (findBytes base wanted n) (findBytes ours wanted n) (findBytes theirs wanted n)
 
   unfoldable pub ourKeyItems : List ℕ → ℕ → List (List ℕ)
   ourKeyItems wanted n = cond (ltb 0 (length (findBytes theirs wanted n))) [] (keyItems wanted n)

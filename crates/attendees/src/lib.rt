@@ -8,7 +8,8 @@ ghost use lib.Dec.{eqb};
 ghost use Rattle.comparison.specs.Bytes.{verdictOf};
 ghost use Rattle.pens.specs.Writing.{Wrote, Listed};
 ghost use Rattle.attendees.specs.Entries.{entryCount, entryAt, entryBytes, addressOf, oneIf, occurrenceOf, findBytes, Shown, headOf, replyOf, kindOf, sameRest, judgeWhole, judgeOwn, judgeRemoved, restRefused, judgeStanding, judgeOf, entryValueItems, sideBytes, entryConflict, entryRefused, entryItems, ownOf, keyItems, ourKeyItems, theirItems, ourItems, entriesItems};
-
+use comparison::CONFLICTS;
+use comparison::MERGED;
 use comparison::Verdict;
 use frame::Cursor;
 use frame::MAX_ATTENDEES;
@@ -197,7 +198,12 @@ fn judge_whole(b: &[u8], o: &[u8], t: &[u8], owned: bool) -> Judged
     let reply = reply_if(ours, o, t);
     let conflict = comparison::is_conflict(v);
     let refused = comparison::is_refused(v);
-    Judged { ours, reply, conflict, refused }
+    Judged {
+        ours,
+        reply,
+        conflict,
+        refused,
+    }
 }
 
 fn verdict_byte(base: u8, ours: u8, theirs: u8) -> Verdict
@@ -241,7 +247,12 @@ fn judge_removed(b: &[u8], o: &[u8]) -> Judged
 {
     let refused = !same_rest(b, o);
     let conflict = differ(reply(b), reply(o));
-    Judged { ours: false, reply: 0, conflict, refused }
+    Judged {
+        ours: false,
+        reply: 0,
+        conflict,
+        refused,
+    }
 }
 
 fn rest_refused(b: &[u8], o: &[u8], t: &[u8]) -> bool
@@ -260,7 +271,12 @@ fn judge_standing(b: &[u8], o: &[u8], t: &[u8]) -> Judged
     let v = verdict_byte(reply(b), reply(o), reply(t));
     let reply = reply_if(comparison::is_ours(v), o, t);
     let conflict = comparison::is_conflict(v);
-    Judged { ours: false, reply, conflict, refused }
+    Judged {
+        ours: false,
+        reply,
+        conflict,
+        refused,
+    }
 }
 
 fn judge(own: bool, owner: bool, b: &[u8], o: &[u8], t: &[u8]) -> Judged
@@ -281,7 +297,9 @@ fn entry_value(sheet: Sheet, out: &mut [u8], entry: &[u8], reply: u8) -> Sheet
     if entry.len() == 0 {
         return sheet;
     }
-    let p = pen.part(out, head(entry)).byte(out, reply).byte(out, kind(entry));
+    let p = pen.part(out, head(entry))
+        .byte(out, reply)
+        .byte(out, kind(entry));
     let n = pens::more(count);
     Sheet { pen: p, count: n }
 }
@@ -302,7 +320,9 @@ fn entry_conflict<'a>(sheet: Sheet, out: &mut [u8], b: &'a [u8], o: &'a [u8], t:
 {
     let pen = sheet.pen;
     let count = sheet.count;
-    let p = pen.byte(out, 4).byte(out, 1).text(out, display_address(b, o, t));
+    let p = pen.byte(out, 4)
+        .byte(out, 1)
+        .text(out, display_address(b, o, t));
     let x = side(p, out, b);
     let y = side(x, out, o);
     let q = side(y, out, t);
@@ -315,21 +335,31 @@ fn entry_refused<'a>(sheet: Sheet, out: &mut [u8], b: &'a [u8], o: &'a [u8], t: 
 {
     let pen = sheet.pen;
     let count = sheet.count;
-    let p = pen.byte(out, 4).byte(out, 1).text(out, display_address(b, o, t));
+    let p = pen.byte(out, 4)
+        .byte(out, 1)
+        .text(out, display_address(b, o, t));
     let n = pens::more(count);
     Sheet { pen: p, count: n }
 }
 
-fn entry<'a>(sheet: Sheet, out: &mut [u8], which: u8, j: Judged, b: &'a [u8], o: &'a [u8], t: &'a [u8]) -> Sheet
+fn entry<'a>(
+    sheet: Sheet,
+    out: &mut [u8],
+    which: u8,
+    j: Judged,
+    b: &'a [u8],
+    o: &'a [u8],
+    t: &'a [u8],
+) -> Sheet
     ensures { λ r. ⌜ Listed (now (out .entry)) (now (out .exit)) (sheet .pen) (sheet .count) (r .pen) (r .count) (entryItems which j (now (b .entry)) (now (o .entry)) (now (t .entry))) ⌝ }
 {
-    if which == 0 {
+    if which == MERGED {
         if j.ours {
             return entry_value(sheet, out, o, j.reply);
         }
         return entry_value(sheet, out, t, j.reply);
     }
-    if which == 1 {
+    if which == CONFLICTS {
         if j.conflict {
             return entry_conflict(sheet, out, b, o, t);
         }
@@ -351,7 +381,18 @@ fn is_own(owner: bool, me: &[u8], wanted: &[u8]) -> bool
     comparison::same_folded(me, wanted)
 }
 
-fn entry_of<'a>(sheet: Sheet, out: &mut [u8], which: u8, owner: bool, me: &[u8], base: &'a [u8], ours: &'a [u8], theirs: &'a [u8], wanted: &[u8], n: u8) -> Sheet
+fn entry_of<'a>(
+    sheet: Sheet,
+    out: &mut [u8],
+    which: u8,
+    owner: bool,
+    me: &[u8],
+    base: &'a [u8],
+    ours: &'a [u8],
+    theirs: &'a [u8],
+    wanted: &[u8],
+    n: u8,
+) -> Sheet
     ensures { λ r. ⌜ Listed (now (out .entry)) (now (out .exit)) (sheet .pen) (sheet .count) (r .pen) (r .count) (keyItems which owner (now (me .entry)) (now (base .entry)) (now (ours .entry)) (now (theirs .entry)) (now (wanted .entry)) n) ⌝ }
 {
     let b = find_entry(base, wanted, n);
@@ -362,7 +403,16 @@ fn entry_of<'a>(sheet: Sheet, out: &mut [u8], which: u8, owner: bool, me: &[u8],
     entry(sheet, out, which, j, b, o, t)
 }
 
-fn their_entries<'a>(sheet: Sheet, out: &mut [u8], which: u8, owner: bool, me: &[u8], base: &'a [u8], ours: &'a [u8], theirs: &'a [u8]) -> Sheet
+fn their_entries<'a>(
+    sheet: Sheet,
+    out: &mut [u8],
+    which: u8,
+    owner: bool,
+    me: &[u8],
+    base: &'a [u8],
+    ours: &'a [u8],
+    theirs: &'a [u8],
+) -> Sheet
     ensures { λ r. ⌜ Listed (now (out .entry)) (now (out .exit)) (sheet .pen) (sheet .count) (r .pen) (r .count) (theirItems which owner (now (me .entry)) (now (base .entry)) (now (ours .entry)) (now (theirs .entry)) (entryCount (now (theirs .entry)))) ⌝ }
 {
     let mut h = sheet;
@@ -377,7 +427,18 @@ fn their_entries<'a>(sheet: Sheet, out: &mut [u8], which: u8, owner: bool, me: &
     h
 }
 
-fn our_entry<'a>(sheet: Sheet, out: &mut [u8], which: u8, owner: bool, me: &[u8], base: &'a [u8], ours: &'a [u8], theirs: &'a [u8], wanted: &[u8], n: u8) -> Sheet
+fn our_entry<'a>(
+    sheet: Sheet,
+    out: &mut [u8],
+    which: u8,
+    owner: bool,
+    me: &[u8],
+    base: &'a [u8],
+    ours: &'a [u8],
+    theirs: &'a [u8],
+    wanted: &[u8],
+    n: u8,
+) -> Sheet
     ensures { λ r. ⌜ Listed (now (out .entry)) (now (out .exit)) (sheet .pen) (sheet .count) (r .pen) (r .count) (ourKeyItems which owner (now (me .entry)) (now (base .entry)) (now (ours .entry)) (now (theirs .entry)) (now (wanted .entry)) n) ⌝ }
 {
     let t = find_entry(theirs, wanted, n);
@@ -387,7 +448,16 @@ fn our_entry<'a>(sheet: Sheet, out: &mut [u8], which: u8, owner: bool, me: &[u8]
     entry_of(sheet, out, which, owner, me, base, ours, theirs, wanted, n)
 }
 
-fn our_entries<'a>(sheet: Sheet, out: &mut [u8], which: u8, owner: bool, me: &[u8], base: &'a [u8], ours: &'a [u8], theirs: &'a [u8]) -> Sheet
+fn our_entries<'a>(
+    sheet: Sheet,
+    out: &mut [u8],
+    which: u8,
+    owner: bool,
+    me: &[u8],
+    base: &'a [u8],
+    ours: &'a [u8],
+    theirs: &'a [u8],
+) -> Sheet
     ensures { λ r. ⌜ Listed (now (out .entry)) (now (out .exit)) (sheet .pen) (sheet .count) (r .pen) (r .count) (ourItems which owner (now (me .entry)) (now (base .entry)) (now (ours .entry)) (now (theirs .entry)) (entryCount (now (ours .entry)))) ⌝ }
 {
     let mut h = sheet;
@@ -403,10 +473,18 @@ fn our_entries<'a>(sheet: Sheet, out: &mut [u8], which: u8, owner: bool, me: &[u
 }
 
 // The attendees' lists, merged: theirs' order, then ours not in theirs.
-pub fn entries<'a>(sheet: Sheet, out: &mut [u8], which: u8, owner: bool, me: &[u8], base: &'a [u8], ours: &'a [u8], theirs: &'a [u8]) -> Sheet
+pub fn entries<'a>(
+    sheet: Sheet,
+    out: &mut [u8],
+    which: u8,
+    owner: bool,
+    me: &[u8],
+    base: &'a [u8],
+    ours: &'a [u8],
+    theirs: &'a [u8],
+) -> Sheet
     ensures { λ r. ⌜ Listed (now (out .entry)) (now (out .exit)) (sheet .pen) (sheet .count) (r .pen) (r .count) (entriesItems which owner (now (me .entry)) (now (base .entry)) (now (ours .entry)) (now (theirs .entry))) ⌝ }
 {
     let h = their_entries(sheet, out, which, owner, me, base, ours, theirs);
     our_entries(h, out, which, owner, me, base, ours, theirs)
 }
-

@@ -1,5 +1,5 @@
 -- Laws of comparing encoded parts, of the verdict, and of parts. Assumes nothing.
-use Prim.Native.Nat.{ℕ, zero, suc, _+_, _-_, _≤_, _<_, compare, Ordering, Ordering·lt, Ordering·eq, Ordering·gt}
+use Prim.Native.Nat.{ℕ, suc, _+_, _-_, _≤_, _<_, compare, Ordering, Ordering·lt, Ordering·eq, Ordering·gt}
 use native.Mathlib.Omega.{arith}
 use native.Mathlib.Numerals.{add-one}
 use mathlib.Core.Path.{_≡_, refl, sym, ap, _∙_}
@@ -14,7 +14,6 @@ use Rattle.model.specs.Maps.{if_then_else_, by, by-name, same-text, map}
 use Rattle.model.specs.Formats.{same}
 use Rattle.model.specs.Merge.{lower, to-ascii-lowercase, verdict}
 use Rattle.comparison.specs.Bytes.{sameFolded, meantVerdict, verdictOf, span}
-use Rattle.comparison.specs.declared.Verdict.{Verdict}
 use Rattle.comparison.specs.declared.Verdict.the-variants.{Theirs, Ours, Conflict, Refused}
 
 -- the model's comparison, byte by byte

@@ -55,6 +55,13 @@ pub fn same_folded(a: &[u8], b: &[u8]) -> bool
     b.len() <= i
 }
 
+// What is written of a unit: its merged value, its conflict or its refusal.
+pub const MERGED: u8 = 0;
+
+pub const CONFLICTS: u8 = 1;
+
+pub const REFUSED: u8 = 2;
+
 pub enum Verdict {
     Theirs,
     Ours,
@@ -80,23 +87,6 @@ pub fn verdict_of(base: &[u8], ours: &[u8], theirs: &[u8], owned: bool) -> Verdi
     }
     Verdict::Conflict
 }
-
-// The bytes from one place to another.
-pub fn part(s: &[u8], from: usize, to: usize) -> &[u8]
-    ensures { λ r. ⌜ now r ≡ span (now (s .entry)) from to ⌝ }
-{
-    if to <= from {
-        return &s[..0];
-    }
-    if s.len() <= from {
-        return &s[..0];
-    }
-    if s.len() < to {
-        return &s[from..];
-    }
-    &s[from..to]
-}
-
 
 pub fn is_ours(v: Verdict) -> bool
     ensures { λ r. ⌜ r ≡ isOurs v ⌝ }
@@ -129,4 +119,20 @@ pub fn is_refused(v: Verdict) -> bool
         Verdict::Conflict => false,
         Verdict::Refused => true,
     }
+}
+
+// The bytes from one place to another.
+pub fn part(s: &[u8], from: usize, to: usize) -> &[u8]
+    ensures { λ r. ⌜ now r ≡ span (now (s .entry)) from to ⌝ }
+{
+    if to <= from {
+        return &s[..0];
+    }
+    if s.len() <= from {
+        return &s[..0];
+    }
+    if s.len() < to {
+        return &s[from..];
+    }
+    &s[from..to]
 }

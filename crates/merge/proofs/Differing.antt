@@ -1,10 +1,9 @@
 -- Whether a merged event differs from theirs: their bytes differ where their fields' bytes do. Assumes nothing.
-use Prim.Native.Nat.{ℕ, _+_}
+use Prim.Native.Nat.{ℕ}
 use native.Mathlib.Omega.{arith}
 use mathlib.Core.Path.{_≡_, refl, sym, ap, _∙_}
 use mathlib.Core.List.{List, [], _∷_, _++_}
-use mathlib.Core.Bool.{Bool, true, false, not, _&&_, false≢true}
-use lib.Dec.{T}
+use mathlib.Core.Bool.{Bool, true, false, not}
 use lib.ListN.{length, take, length-append}
 use lib.Seq.{take-at}
 use borrow.Author.Tests.{eq-eqb}
@@ -28,8 +27,8 @@ same-after (c ∷ x) a b = rw (same-cons c c (x ++ a) (x ++ b), eq-eqb c c refl)
 cancel : (a b x : List ℕ) → a ++ x ≡ b ++ x → a ≡ b
 cancel a b x e =
     let n : length a ≡ length b =
-      let l : length (a ++ x) ≡ length (b ++ x) = ap length e in
-      omega (arith, length-append a x, length-append b x, l)
+    let l : length (a ++ x) ≡ length (b ++ x) = ap length e in
+    omega (arith, length-append a x, length-append b x, l)
     in
     sym (take-at a x (length a) refl) ∙ (ap (take (length a)) e ∙ take-at b x (length a) (sym n))
 

@@ -2,19 +2,18 @@
 use Prim.Native.Nat.{ℕ}
 use native.Mathlib.Omega.{arith}
 use mathlib.Core.Path.{_≡_, refl, sym, ap, _∙_}
-use mathlib.Core.List.{List, [], _∷_, _++_, append-assoc}
-use mathlib.Core.Bool.{Bool, true, false}
+use mathlib.Core.List.{List, [], _++_, append-assoc}
 use Rattle.format.specs.Format.{option, nothing, enum, _∣_, _⊗_, via}
 use Rattle.format.proofs.FormatLaws.{pair-law, option-law}
 use Rattle.model.specs.Event.{Text, NormalizedEvent, ProviderEvent}
 use Rattle.model.specs.Parts.{Role}
 use Rattle.model.specs.Shapes.{eventTo, eventFrom}
 use Rattle.model.specs.Formats.{shortText, tag, u32, idsF, fieldsF, eventF, roleF}
-use Rattle.model.specs.Merge.{to-ascii-lowercase, is-own, is-owner, merge}
+use Rattle.model.specs.Merge.{is-own, is-owner, merge}
 use Rattle.model.proofs.FormatsLaws.{shortText-law, tag-law, u32-law, idsF-law, fieldsF-law, eventF-law}
 use Rattle.frame.specs.Read.{skips, start, valueAt, valueOf}
 use Rattle.frame.proofs.Steps.{skips-pair}
-use Rattle.comparison.specs.Bytes.{sameFolded, span}
+use Rattle.comparison.specs.Bytes.{sameFolded}
 use Rattle.attendees.specs.Entries.{ownOf}
 use Rattle.merge.specs.Given.{Begins}
 use Rattle.merge.specs.Parts.{fieldsPlace, fieldsEnd, beforeFields, fieldsOf, afterFields, eventOf, ownerOf, writerOf}

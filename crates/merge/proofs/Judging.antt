@@ -1,12 +1,12 @@
 -- What is judged of encoded entries is what the merge's definitions say of the entries. Assumes nothing.
-use Prim.Native.Nat.{ℕ, suc, _+_, _-_, _≤_, _<_}
+use Prim.Native.Nat.{ℕ, _+_, _-_}
 use native.Mathlib.Omega.{arith}
 use mathlib.Core.Path.{_≡_, refl, sym, ap, _∙_}
 use mathlib.Core.List.{List, [], _∷_, _++_, append-assoc}
 use mathlib.Core.Option.{Option, none, some}
 use mathlib.Core.Bool.{Bool, true, false, cond, not, _&&_, _||_}
 use lib.Dec.{eqb, ltb}
-use lib.ListN.{length, take, drop, getD, length-append}
+use lib.ListN.{length, length-append}
 use lib.Seq.{take-at, getD-at}
 use borrow.Author.Tests.{le-ltb, ne-eqb, eq-eqb}
 use Rattle.format.specs.Format.{Format, below, option, text, enum, _∣_, nothing, _⊗_, via}
@@ -22,7 +22,7 @@ use Rattle.comparison.specs.Bytes.{meantVerdict, verdictOf, isOurs, isConflict,
 use Rattle.comparison.specs.declared.Verdict.{Verdict}
 use Rattle.comparison.specs.declared.Verdict.the-variants.{Theirs, Ours, Conflict, Refused}
 use Rattle.comparison.proofs.Laws.{same-nil, same-short, same-long, same-cons, verdict-means}
-use Rattle.attendees.specs.Entries.{entryEnc, shownAddress, headOf, replyOf, kindOf, sameRest, judgeWhole, judgeRemoved, judgeStanding, judgeOwn, judgeOf, entryValueItems, sideBytes, entryRefused, entryConflict, entryItems}
+use Rattle.attendees.specs.Entries.{entryEnc, headOf, replyOf, kindOf, sameRest, judgeWhole, judgeRemoved, judgeStanding, judgeOwn, judgeOf, entryValueItems, sideBytes, entryRefused, entryConflict, entryItems}
 use Rattle.attendees.proofs.Laws.{one-byte}
 use Rattle.attendees.proofs.Shown.{enc-cons, present, shown-enc}
 use Rattle.merge.proofs.Items.{encs, one-item, one-of, one-same, items}
@@ -299,12 +299,12 @@ module _ (which : ℕ) (b o t : Attendee) (p : attendeeF .Ok b) (q : attendeeF .
 
   by-both : (c : Bool) (v : Verdict)
       → one-of which (entryValueItems (attendeeF .enc t) (cond (isOurs v) (participationFrom (o .participation)) (participationFrom (t .participation))))
-        (cond (isConflict v) (entryConflict (attendeeF .enc b) (attendeeF .enc o) (attendeeF .enc t) ∷ []) [])
-        (cond (not c) (entryRefused (attendeeF .enc b) (attendeeF .enc o) (attendeeF .enc t) ∷ []) [])
+      (cond (isConflict v) (entryConflict (attendeeF .enc b) (attendeeF .enc o) (attendeeF .enc t) ∷ []) [])
+      (cond (not c) (entryRefused (attendeeF .enc b) (attendeeF .enc o) (attendeeF .enc t) ∷ []) [])
       ≡ one-of which
-        (one-item (some (with-participation (replied v b o t .value) (the-rest (cond c Theirs Refused) .value))))
-        (encs (conflictF .enc) (the-rest (cond c Theirs Refused) .conflicts ++ replied v b o t .conflicts))
-        (encs (refusedF .enc) (the-rest (cond c Theirs Refused) .refused ++ replied v b o t .refused))
+      (one-item (some (with-participation (replied v b o t .value) (the-rest (cond c Theirs Refused) .value))))
+      (encs (conflictF .enc) (the-rest (cond c Theirs Refused) .conflicts ++ replied v b o t .conflicts))
+      (encs (refusedF .enc) (the-rest (cond c Theirs Refused) .refused ++ replied v b o t .refused))
   unfolding kept conflicting refusing rest with-participation display-address
   by-both true Theirs = one-same which (value-with t (t .participation)) refl refl
   by-both true Ours = one-same which (value-with t (o .participation)) refl refl
@@ -329,7 +329,7 @@ module _ (which : ℕ) (b o t : Attendee) (p : attendeeF .Ok b) (q : attendeeF .
   unfolding own-standing
   standing-is =
       ap (λ (m : Merged Attendee). both m (own-reply b o t)) (part-judged attendeeF (λ r. FieldValue.Attendee (some r)) Field.Attendees (some (t .address)) false (rest b) (rest o) (rest t)
-        ∙ ap the-rest (unowned (rest b) (rest o) (rest t)))
+      ∙ ap the-rest (unowned (rest b) (rest o) (rest t)))
       ∙ ap (λ (n : Merged Participation). both (the-rest (cond unchanged Theirs Refused)) n) (reply-judged b o t)
 
   pub standing-items : entryItems which (judgeStanding (attendeeF .enc b) (attendeeF .enc o) (attendeeF .enc t)) (attendeeF .enc b) (attendeeF .enc o) (attendeeF .enc t)
@@ -351,7 +351,7 @@ own-items which (some b) (some o) (some t) p q r = rw (not-empty b, not-empty o,
 -- an entry, own or not: what the code judges and writes is what the definitions say
 pub entry-items : (which : ℕ) (own owner : Bool) (x y z : Option Attendee) → option attendeeF .Ok x → option attendeeF .Ok y → option attendeeF .Ok z
     → entryItems which (judgeOf own owner (entryEnc x) (entryEnc y) (entryEnc z)) (entryEnc x) (entryEnc y) (entryEnc z)
-      ≡ items which one-item (if own then own-entry x y z else whole-entry owner x y z)
+    ≡ items which one-item (if own then own-entry x y z else whole-entry owner x y z)
 unfolding judgeOf if_then_else_
 entry-items which true owner x y z p q r = own-items which x y z p q r
 entry-items which false owner x y z p q r = whole-items which x y z p q r owner

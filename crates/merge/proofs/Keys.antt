@@ -1,11 +1,11 @@
 -- An entry is found under a key where its address, folded, stands the key's number of times before it. Assumes nothing.
-use Prim.Native.Nat.{ℕ, suc, _+_, _-_, _≤_}
+use Prim.Native.Nat.{ℕ, _+_, _-_, _≤_}
 use native.Mathlib.Omega.{arith}
 use mathlib.Core.Path.{_≡_, refl, sym, ap, _∙_}
 use mathlib.Core.List.{List, [], _∷_, _++_}
-use mathlib.Core.Option.{Option, none, some, Option·none-ne-some}
+use mathlib.Core.Option.{none, some, Option·none-ne-some}
 use mathlib.Core.Bool.{Bool, true, false, cond, _&&_}
-use lib.Dec.{T, eqb}
+use lib.Dec.{eqb}
 use lib.ListN.{length}
 use borrow.Author.Tests.{eq-eqb, ne-eqb, eqb-true, eqb-false}
 use Rattle.model.specs.Event.{Text, Attendee}
@@ -71,15 +71,15 @@ module _ (k : Key) where
   find-after [] out h t = h
   find-after (a ∷ l) out h t =
       go (same-text (to-ascii-lowercase (a .address)) (k .address)) (eqb (k .occurrence - tally out (k .address)) 0) refl refl
-        (find-after l (out ++ (key-of out a, a) ∷ []))
-        (find-snoc out (key-of out a, a) h) (tally-own out (key-of out a, a))
+      (find-after l (out ++ (key-of out a, a) ∷ []))
+      (find-snoc out (key-of out a, a) h) (tally-own out (key-of out a, a))
     where
       n : ℕ
       n = k .occurrence - tally out (k .address)
 
       go : (c d : Bool) → same-text (to-ascii-lowercase (a .address)) (k .address) ≡ c → eqb (k .occurrence - tally out (k .address)) 0 ≡ d
           → (find (out ++ (key-of out a, a) ∷ []) k ≡ none → tally (out ++ (key-of out a, a) ∷ []) (k .address) ≤ k .occurrence
-            → find (keyed-after (out ++ (key-of out a, a) ∷ []) l) k ≡ nthIn (k .address) (k .occurrence - tally (out ++ (key-of out a, a) ∷ []) (k .address)) l)
+          → find (keyed-after (out ++ (key-of out a, a) ∷ []) l) k ≡ nthIn (k .address) (k .occurrence - tally (out ++ (key-of out a, a) ∷ []) (k .address)) l)
           → find (out ++ (key-of out a, a) ∷ []) k ≡ (if same-key (key-of out a) k then some a else none)
           → tally (out ++ (key-of out a, a) ∷ []) (k .address) ≡ tally out (k .address) + oneIf (same-text (to-ascii-lowercase (a .address)) (k .address))
           → find (keyed-after (out ++ (key-of out a, a) ∷ []) l) k ≡ cond (c && d) (some a) (nthIn (k .address) (k .occurrence - tally out (k .address) - oneIf c) l)

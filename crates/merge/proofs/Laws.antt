@@ -1,12 +1,12 @@
 -- Laws of the merge's functions: one for each answer, its premises what the callees ensure. Assumes nothing.
-use Prim.Native.Nat.{ℕ, suc, _+_, _≤_}
+use Prim.Native.Nat.{ℕ, _≤_}
 use native.Mathlib.Omega.{arith}
-use mathlib.Core.Path.{_≡_, refl, sym, ap, _∙_, subst}
+use mathlib.Core.Path.{_≡_, refl, ap, _∙_, subst}
 use mathlib.Core.List.{List, [], _∷_, _++_}
-use mathlib.Core.Bool.{Bool, true, false, not}
+use mathlib.Core.Bool.{Bool, false, not}
 use lib.Dec.{eqb}
 use lib.ListN.{length, getD}
-use Rattle.format.specs.Format.{option, list, concatMap, _⊗_, via}
+use Rattle.format.specs.Format.{option, list, concatMap}
 use Rattle.model.specs.Event.{NormalizedEvent, ProviderEvent}
 use Rattle.model.specs.Parts.{Role}
 use Rattle.model.specs.Limits.{max-count, max-conflict-bytes, max-refused-bytes}
@@ -29,7 +29,7 @@ use Rattle.merge.specs.Within.{WroteWithin}
 use Rattle.merge.specs.Parts.{fieldsPlace, fieldsEnd, beforeFields, fieldsOf, afterFields, eventOf, ownerOf, writerOf}
 use Rattle.merge.specs.Reports.{attendeeItems, reportItems, fieldBytes}
 use Rattle.merge.proofs.Stood.{Stood, stood-start}
-use Rattle.merge.proofs.Items.{encs, encs-flat, encs-length}
+use Rattle.merge.proofs.Items.{encs-flat, encs-length}
 use Rattle.merge.proofs.Walk.{Writes}
 use Rattle.merge.proofs.Merging as merging
 use Rattle.merge.proofs.Merging.{merged-few}
@@ -144,7 +144,7 @@ module _ {base ours theirs role : List ℕ} {b o : NormalizedEvent} {t : Provide
           let i = merging.conflicts-are writer t (stood-start (G .base)) (stood-start (G .ours)) fields in
           let n : length (reportItems 1 owner me base ours f) ≡ length (merge b o t by .conflicts) = ap (λ (l : List (List ℕ)). length l) i ∙ encs-length (conflictF .enc) (merge b o t by .conflicts) in
           let w : Wrote a c p q (length (merge b o t by .conflicts) ∷ concatMap (conflictF .enc) (merge b o t by .conflicts))
-                = wrote-as (k (omega (arith, n, short .conflict-count))) (rw (n, i) (ap (λ (l : List ℕ). length (merge b o t by .conflicts) ∷ l) (encs-flat (conflictF .enc) (merge b o t by .conflicts)))) in
+          = wrote-as (k (omega (arith, n, short .conflict-count))) (rw (n, i) (ap (λ (l : List ℕ). length (merge b o t by .conflicts) ∷ l) (encs-flat (conflictF .enc) (merge b o t by .conflicts)))) in
           record { wrote = w; enough = λ j l. w .room j (omega (arith, l, short .conflicts)) }
 
       pub refused-written : (length (reportItems 2 owner me base ours f) ≤ 255 → Wrote a c p q (length (reportItems 2 owner me base ours f) ∷ flat (reportItems 2 owner me base ours f)))
@@ -154,7 +154,7 @@ module _ {base ours theirs role : List ℕ} {b o : NormalizedEvent} {t : Provide
           let i = merging.refused-are writer t (stood-start (G .base)) (stood-start (G .ours)) fields in
           let n : length (reportItems 2 owner me base ours f) ≡ length (merge b o t by .refused) = ap (λ (l : List (List ℕ)). length l) i ∙ encs-length (refusedF .enc) (merge b o t by .refused) in
           let w : Wrote a c p q (length (merge b o t by .refused) ∷ concatMap (refusedF .enc) (merge b o t by .refused))
-                = wrote-as (k (omega (arith, n, short .refused-count))) (rw (n, i) (ap (λ (l : List ℕ). length (merge b o t by .refused) ∷ l) (encs-flat (refusedF .enc) (merge b o t by .refused)))) in
+          = wrote-as (k (omega (arith, n, short .refused-count))) (rw (n, i) (ap (λ (l : List ℕ). length (merge b o t by .refused) ∷ l) (encs-flat (refusedF .enc) (merge b o t by .refused)))) in
           record { wrote = w; enough = λ j l. w .room j (omega (arith, l, short .refused)) }
 
 pub differ-is : (s u x y : List ℕ) (r : Bool) → x ≡ eventOf s → y ≡ eventOf u → r ≡ same-text x y

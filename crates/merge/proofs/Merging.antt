@@ -1,25 +1,23 @@
 -- What is written of encoded fields is what the merge's definitions have. Assumes nothing.
-use Prim.Native.Nat.{ℕ, _+_, _≤_}
+use Prim.Native.Nat.{ℕ, _≤_}
 use native.Mathlib.Omega.{arith}
 use mathlib.Core.Path.{_≡_, refl, sym, ap, ap₂, _∙_}
 use mathlib.Core.List.{List, [], _∷_, _++_, append-assoc, append-nil}
 use mathlib.Core.Option.{Option, none, some}
-use mathlib.Core.Bool.{Bool, true, false, cond}
-use lib.Dec.{eqb}
+use mathlib.Core.Bool.{Bool, true}
 use lib.ListN.{length}
-use Rattle.format.specs.Format.{Format, below, option, list, enum, _∣_, nothing, via, _⊗_, concatMap}
+use Rattle.format.specs.Format.{Format, below, option, list, enum, _∣_, nothing, via, _⊗_}
 use Rattle.model.specs.Event.{Text, Tag, Organizer, Attendee, EventStatus, Transparency, Visibility, NormalizedEvent, ProviderEvent}
 use Rattle.model.specs.Parts.{Role, Field, FieldValue}
 use Rattle.model.specs.Limits.{max-attendees}
 use Rattle.model.specs.Shapes.{fieldFrom}
 use Rattle.model.specs.Formats.{shortText, tag, organizerF, attendeeF, statusF, transparencyF, visibilityF, fieldsF, fieldF, fieldValueF, conflictF, refusedF}
-use Rattle.model.specs.Merge.{Merged, kept, conflicting, refusing, merge-part, is-owner, Key, Keyed, keyed, find, entry-at, extend, entries-at, key-order, merge-attendees, merge}
+use Rattle.model.specs.Merge.{Merged, kept, conflicting, refusing, merge-part, is-owner, Key, Keyed, keyed, entry-at, extend, entries-at, key-order, merge-attendees, merge}
 use Rattle.model.proofs.MergeKeys.{order-length, length-keyed}
 use Rattle.frame.specs.Read.{start}
 use Rattle.comparison.specs.Bytes.{verdictOf}
 use Rattle.comparison.specs.declared.Verdict.{Verdict}
 use Rattle.comparison.specs.declared.Verdict.the-variants.{Theirs, Ours, Conflict, Refused}
-use Rattle.pens.specs.Writing.{flat}
 use Rattle.units.specs.Units.{unitBytes, unitItems, unitsItems, valueItem, conflictItems, refusedItems, ownedUnit}
 use Rattle.merge.specs.Reports.{attendeeItems, reportItems, fieldBytes}
 use Rattle.merge.proofs.Stood.{Stood, stood-alone}

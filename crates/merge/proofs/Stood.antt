@@ -5,10 +5,10 @@ use mathlib.Core.Path.{_≡_, refl, sym, ap, _∙_}
 use mathlib.Core.List.{List, [], _++_, append-assoc, append-nil}
 use mathlib.Core.Option.{some}
 use mathlib.Core.Bool.{true}
-use lib.ListN.{length, take, drop, length-append, length-drop}
+use lib.ListN.{length, drop, length-append, length-drop}
 use lib.Seq.{take-at, drop-at, drop-drop}
 use Rattle.format.specs.Format.{Format, Lawful, _⊗_, via}
-use Rattle.frame.specs.Read.{skips, stepped, gotAt, start}
+use Rattle.frame.specs.Read.{skips, start}
 use Rattle.frame.specs.declared.Cursor.{Cursor}
 use Rattle.comparison.specs.Bytes.{span}
 use Rattle.merge.specs.Given.{Begins}

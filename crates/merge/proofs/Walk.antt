@@ -1,5 +1,5 @@
 -- The items of encoded attendee lists are those of the merge's definitions, key by key. Assumes nothing.
-use Prim.Native.Nat.{ℕ, zero, suc, _+_, _-_, _≤_, _<_}
+use Prim.Native.Nat.{ℕ, zero, suc, _≤_, _<_}
 use native.Mathlib.Omega.{arith}
 use native.Mathlib.Numerals.{add-one}
 use mathlib.Core.Path.{_≡_, refl, sym, ap, ap₂, _∙_, subst}
@@ -109,7 +109,7 @@ module _ (which : ℕ) (role : Role) (b o t : Keyed) where
   items-are (k ∷ ks) =
       ap (λ (r : List (List ℕ)). items which one-item (entry-at role b o t k) ++ r) (items-are ks)
       ∙ (sym (one-append which (one-item (e .value)) (encs (conflictF .enc) (e .conflicts)) (encs (refusedF .enc) (e .refused)) (encs (attendeeF .enc) (m .value)) (encs (conflictF .enc) (m .conflicts)) (encs (refusedF .enc) (m .refused)))
-        ∙ one-same which (sym (extend-encs (e .value) (m .value))) (sym (encs-append (conflictF .enc) (e .conflicts) (m .conflicts))) (sym (encs-append (refusedF .enc) (e .refused) (m .refused))))
+      ∙ one-same which (sym (extend-encs (e .value) (m .value))) (sym (encs-append (conflictF .enc) (e .conflicts) (m .conflicts))) (sym (encs-append (refusedF .enc) (e .refused) (m .refused))))
     where
       e : Merged (Option Attendee)
       e = entry-at role b o t k
@@ -138,10 +138,10 @@ module _ (which : ℕ) {owner : Bool} {me : Text} {role : Role} (W : Writes owne
   their-items (suc n) h =
       let k : Key = key-of (keyed (take n t)) (getD t n noOne) in
       let e : keyItems which owner me base ours theirs (addressOf (entryBytes theirs n)) (occurrenceOf theirs n) ≡ at-key k
-            = key-items (addressOf (entryBytes theirs n)) (occurrenceOf theirs n) ∙ ap (λ (k : Key). at-key k) (key-at R n h) in
+      = key-items (addressOf (entryBytes theirs n)) (occurrenceOf theirs n) ∙ ap (λ (k : Key). at-key k) (key-at R n h) in
       ap₂ (λ (x y : List (List ℕ)). x ++ y) (their-items n (omega arith)) e
       ∙ sym (ap (λ (ks : List Key). at-keys ks) (keys-take R n h) ∙ (items-append which role (keyed b) (keyed o) (keyed t) (keys (keyed (take n t))) (k ∷ [])
-        ∙ ap (λ (r : List (List ℕ)). at-keys (keys (keyed (take n t))) ++ r) (append-nil (at-key k))))
+      ∙ ap (λ (r : List (List ℕ)). at-keys (keys (keyed (take n t))) ++ r) (append-nil (at-key k))))
 
   abbrev new : Key → Bool
   new k = not (is-some (find (keyed t) k))
@@ -174,16 +174,16 @@ module _ (which : ℕ) {owner : Bool} {me : Text} {role : Role} (W : Writes owne
       let k : Key = key-of (keyed (take n o)) (getD o n noOne) in
       ap₂ (λ (x y : List (List ℕ)). x ++ y) (our-items n (omega arith)) (our-key (addressOf (entryBytes ours n)) (occurrenceOf ours n) k (key-at O n h))
       ∙ sym (ap (λ (ks : List Key). at-keys (filter new ks)) (keys-take O n h) ∙ (ap (λ (ks : List Key). at-keys ks) (filter-append (keys (keyed (take n o))) (k ∷ []))
-        ∙ items-append which role (keyed b) (keyed o) (keyed t) (filter new (keys (keyed (take n o)))) (filter new (k ∷ []))))
+      ∙ items-append which role (keyed b) (keyed o) (keyed t) (filter new (keys (keyed (take n o)))) (filter new (k ∷ []))))
 
   -- the attendees, whole
   pub entries-items : entriesItems which owner me base ours theirs ≡ at-keys (key-order (keyed o) (keyed t))
   unfolding entriesItems key-order
   entries-items =
       let x : theirItems which owner me base ours theirs (entryCount theirs) ≡ at-keys (keys (keyed t))
-            = ap (theirItems which owner me base ours theirs) (count-of R) ∙ (their-items (length t) (omega arith) ∙ ap (λ (l : List Attendee). at-keys (keys (keyed l))) (take-all (length t) t (omega arith))) in
+      = ap (theirItems which owner me base ours theirs) (count-of R) ∙ (their-items (length t) (omega arith) ∙ ap (λ (l : List Attendee). at-keys (keys (keyed l))) (take-all (length t) t (omega arith))) in
       let y : ourItems which owner me base ours theirs (entryCount ours) ≡ at-keys (filter new (keys (keyed o)))
-            = ap (ourItems which owner me base ours theirs) (count-of O) ∙ (our-items (length o) (omega arith) ∙ ap (λ (l : List Attendee). at-keys (filter new (keys (keyed l)))) (take-all (length o) o (omega arith))) in
+      = ap (ourItems which owner me base ours theirs) (count-of O) ∙ (our-items (length o) (omega arith) ∙ ap (λ (l : List Attendee). at-keys (filter new (keys (keyed l)))) (take-all (length o) o (omega arith))) in
       ap₂ (λ (x y : List (List ℕ)). x ++ y) x y ∙ sym (items-append which role (keyed b) (keyed o) (keyed t) (keys (keyed t)) (filter new (keys (keyed o))))
 
   pub attendees-items : entriesItems which owner me base ours theirs ≡ items which (encs (attendeeF .enc)) (merge-attendees role b o t)

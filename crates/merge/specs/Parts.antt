@@ -1,7 +1,7 @@
 -- The parts of an encoded event and of an encoded role: what the code takes out of the bytes. Assumes nothing.
 use Prim.Native.Nat.{ℕ}
-use mathlib.Core.List.{List, []}
-use mathlib.Core.Bool.{Bool, true}
+use mathlib.Core.List.{List}
+use mathlib.Core.Bool.{Bool}
 use lib.Dec.{eqb}
 use lib.ListN.{getD}
 use Rattle.format.specs.Format.{option}

@@ -15,7 +15,9 @@ ghost use Rattle.merge.specs.Given.{Begins, Given};
 ghost use Rattle.merge.specs.Within.{WroteWithin};
 ghost use Rattle.merge.specs.Parts.{fieldsPlace, fieldsEnd, beforeFields, fieldsOf, afterFields, eventOf, ownerOf, writerOf};
 ghost use Rattle.merge.specs.Reports.{attendeeItems, reportItems, fieldBytes};
-
+use comparison::CONFLICTS;
+use comparison::MERGED;
+use comparison::REFUSED;
 use frame::Cursor;
 use frame::U32;
 use pens::Pen;
@@ -93,58 +95,150 @@ fn writer(role: &[u8]) -> &[u8]
 }
 
 // How many attendees the merged fields have: the entries, written nowhere.
-fn count_attendees<'a>(owner: bool, me: &[u8], base: &'a [u8], ours: &'a [u8], theirs: &'a [u8]) -> u8
+fn count_attendees<'a>(
+    owner: bool,
+    me: &[u8],
+    base: &'a [u8],
+    ours: &'a [u8],
+    theirs: &'a [u8],
+) -> u8
     ensures { λ r. ⌜ (length (attendeeItems 0 owner (now (me .entry)) (now (base .entry)) (now (ours .entry)) (now (theirs .entry))) ≤ 255
         → r ≡ length (attendeeItems 0 owner (now (me .entry)) (now (base .entry)) (now (ours .entry)) (now (theirs .entry)))) ⌝ }
 {
     let mut nowhere: [u8; 1] = [0; 1];
-    let none = Sheet { pen: Pen { at: 0, ok: false }, count: 0 };
-    let h = attendees::entries(none, &mut nowhere, 0, owner, me, units::unit_part(base, 4), units::unit_part(ours, 4), units::unit_part(theirs, 4));
+    let none = Sheet {
+        pen: Pen { at: 0, ok: false },
+        count: 0,
+    };
+    let h = attendees::entries(
+        none,
+        &mut nowhere,
+        MERGED,
+        owner,
+        me,
+        units::unit_part(base, 4),
+        units::unit_part(ours, 4),
+        units::unit_part(theirs, 4),
+    );
     h.count
 }
 
 // The merged fields, of which there are n attendees.
-fn merged_fields<'a>(pen: Pen, out: &mut [u8], n: u8, owner: bool, me: &[u8], base: &'a [u8], ours: &'a [u8], theirs: &'a [u8]) -> Pen
+fn merged_fields<'a>(
+    pen: Pen,
+    out: &mut [u8],
+    n: u8,
+    owner: bool,
+    me: &[u8],
+    base: &'a [u8],
+    ours: &'a [u8],
+    theirs: &'a [u8],
+) -> Pen
     ensures { λ r. ⌜ Wrote (now (out .entry)) (now (out .exit)) pen r (fieldBytes n owner (now (me .entry)) (now (base .entry)) (now (ours .entry)) (now (theirs .entry))) ⌝ }
 {
-    let h = units::units(Sheet { pen, count: 0 }, out, 0, 0, 4, base, ours, theirs, owner);
+    let h = units::units(
+        Sheet { pen, count: 0 },
+        out,
+        MERGED,
+        0,
+        4,
+        base,
+        ours,
+        theirs,
+        owner,
+    );
     let p = h.pen;
     let q = p.byte(out, n);
-    let i = attendees::entries(Sheet { pen: q, count: 0 }, out, 0, owner, me, units::unit_part(base, 4), units::unit_part(ours, 4), units::unit_part(theirs, 4));
-    let j = units::units(i, out, 0, 5, 11, base, ours, theirs, owner);
+    let i = attendees::entries(
+        Sheet { pen: q, count: 0 },
+        out,
+        MERGED,
+        owner,
+        me,
+        units::unit_part(base, 4),
+        units::unit_part(ours, 4),
+        units::unit_part(theirs, 4),
+    );
+    let j = units::units(i, out, MERGED, 5, 11, base, ours, theirs, owner);
     j.pen
 }
 
-// The conflicts (which = 1) or the refused units (2), one after the other.
-fn reports<'a>(sheet: Sheet, out: &mut [u8], which: u8, owner: bool, me: &[u8], base: &'a [u8], ours: &'a [u8], theirs: &'a [u8]) -> Sheet
+// The conflicts or the refused units, one after the other.
+fn reports<'a>(
+    sheet: Sheet,
+    out: &mut [u8],
+    which: u8,
+    owner: bool,
+    me: &[u8],
+    base: &'a [u8],
+    ours: &'a [u8],
+    theirs: &'a [u8],
+) -> Sheet
     ensures { λ r. ⌜ Listed (now (out .entry)) (now (out .exit)) (sheet .pen) (sheet .count) (r .pen) (r .count) (reportItems which owner (now (me .entry)) (now (base .entry)) (now (ours .entry)) (now (theirs .entry))) ⌝ }
 {
     let h = units::units(sheet, out, which, 0, 4, base, ours, theirs, owner);
-    let i = attendees::entries(h, out, which, owner, me, units::unit_part(base, 4), units::unit_part(ours, 4), units::unit_part(theirs, 4));
+    let i = attendees::entries(
+        h,
+        out,
+        which,
+        owner,
+        me,
+        units::unit_part(base, 4),
+        units::unit_part(ours, 4),
+        units::unit_part(theirs, 4),
+    );
     units::units(i, out, which, 5, 11, base, ours, theirs, owner)
 }
 
 // How many there are: the reports, written nowhere.
-fn count_reports<'a>(which: u8, owner: bool, me: &[u8], base: &'a [u8], ours: &'a [u8], theirs: &'a [u8]) -> u8
+fn count_reports<'a>(
+    which: u8,
+    owner: bool,
+    me: &[u8],
+    base: &'a [u8],
+    ours: &'a [u8],
+    theirs: &'a [u8],
+) -> u8
     ensures { λ r. ⌜ (length (reportItems which owner (now (me .entry)) (now (base .entry)) (now (ours .entry)) (now (theirs .entry))) ≤ 255
         → r ≡ length (reportItems which owner (now (me .entry)) (now (base .entry)) (now (ours .entry)) (now (theirs .entry)))) ⌝ }
 {
     let mut nowhere: [u8; 1] = [0; 1];
-    let none = Sheet { pen: Pen { at: 0, ok: false }, count: 0 };
+    let none = Sheet {
+        pen: Pen { at: 0, ok: false },
+        count: 0,
+    };
     let h = reports(none, &mut nowhere, which, owner, me, base, ours, theirs);
     h.count
 }
 
 // The list of them, with its count.
-fn report_list<'a>(pen: Pen, out: &mut [u8], which: u8, owner: bool, me: &[u8], base: &'a [u8], ours: &'a [u8], theirs: &'a [u8]) -> Pen
+fn report_list<'a>(
+    pen: Pen,
+    out: &mut [u8],
+    which: u8,
+    owner: bool,
+    me: &[u8],
+    base: &'a [u8],
+    ours: &'a [u8],
+    theirs: &'a [u8],
+) -> Pen
     ensures { λ r. ⌜ (length (reportItems which owner (now (me .entry)) (now (base .entry)) (now (ours .entry)) (now (theirs .entry))) ≤ 255
         → Wrote (now (out .entry)) (now (out .exit)) pen r
-          (length (reportItems which owner (now (me .entry)) (now (base .entry)) (now (ours .entry)) (now (theirs .entry)))
-            ∷ flat (reportItems which owner (now (me .entry)) (now (base .entry)) (now (ours .entry)) (now (theirs .entry))))) ⌝ }
+        (length (reportItems which owner (now (me .entry)) (now (base .entry)) (now (ours .entry)) (now (theirs .entry)))
+        ∷ flat (reportItems which owner (now (me .entry)) (now (base .entry)) (now (ours .entry)) (now (theirs .entry))))) ⌝ }
 {
     let n = count_reports(which, owner, me, base, ours, theirs);
     let p = pen.byte(out, n);
-    let h = reports(Sheet { pen: p, count: 0 }, out, which, owner, me, base, ours, theirs);
+    let h = reports(
+        Sheet { pen: p, count: 0 },
+        out,
+        which,
+        owner,
+        me,
+        base,
+        ours,
+        theirs,
+    );
     h.pen
 }
 
@@ -157,13 +251,29 @@ pub fn merged_attendees<'a>(base: &'a [u8], ours: &'a [u8], theirs: &'a [u8], ro
 }
 
 // The merged event: theirs, with the merged fields.
-pub fn merged_event<'a>(pen: Pen, out: &mut [u8], base: &'a [u8], ours: &'a [u8], theirs: &'a [u8], role: &[u8]) -> Pen
+pub fn merged_event<'a>(
+    pen: Pen,
+    out: &mut [u8],
+    base: &'a [u8],
+    ours: &'a [u8],
+    theirs: &'a [u8],
+    role: &[u8],
+) -> Pen
     ensures { λ r. ⌜ ((b o : NormalizedEvent) (t : ProviderEvent) (by : Role) → Given (now (base .entry)) (now (ours .entry)) (now (theirs .entry)) (now (role .entry)) b o t by
         → Wrote (now (out .entry)) (now (out .exit)) pen r (eventF .enc ((merge b o t by) .event))) ⌝ }
 {
     let n = merged_attendees(base, ours, theirs, role);
     let p = pen.part(out, before_fields(theirs));
-    let q = merged_fields(p, out, n, is_owner(role), writer(role), base, ours, fields_of(theirs));
+    let q = merged_fields(
+        p,
+        out,
+        n,
+        is_owner(role),
+        writer(role),
+        base,
+        ours,
+        fields_of(theirs),
+    );
     q.part(out, after_fields(theirs))
 }
 
@@ -176,17 +286,49 @@ pub fn changed(merged: &[u8], theirs: &[u8]) -> bool
 }
 
 // The conflicts: 3,072 bytes are always room enough.
-pub fn conflicts<'a>(pen: Pen, out: &mut [u8], base: &'a [u8], ours: &'a [u8], theirs: &'a [u8], role: &[u8]) -> Pen
+pub fn conflicts<'a>(
+    pen: Pen,
+    out: &mut [u8],
+    base: &'a [u8],
+    ours: &'a [u8],
+    theirs: &'a [u8],
+    role: &[u8],
+) -> Pen
     ensures { λ r. ⌜ ((b o : NormalizedEvent) (t : ProviderEvent) (by : Role) → Given (now (base .entry)) (now (ours .entry)) (now (theirs .entry)) (now (role .entry)) b o t by
         → WroteWithin max-conflict-bytes (now (out .entry)) (now (out .exit)) pen r (conflictsF .enc ((merge b o t by) .conflicts))) ⌝ }
 {
-    report_list(pen, out, 1, is_owner(role), writer(role), base, ours, fields_of(theirs))
+    report_list(
+        pen,
+        out,
+        CONFLICTS,
+        is_owner(role),
+        writer(role),
+        base,
+        ours,
+        fields_of(theirs),
+    )
 }
 
 // The refused units: 1,024 bytes are always room enough.
-pub fn refused<'a>(pen: Pen, out: &mut [u8], base: &'a [u8], ours: &'a [u8], theirs: &'a [u8], role: &[u8]) -> Pen
+pub fn refused<'a>(
+    pen: Pen,
+    out: &mut [u8],
+    base: &'a [u8],
+    ours: &'a [u8],
+    theirs: &'a [u8],
+    role: &[u8],
+) -> Pen
     ensures { λ r. ⌜ ((b o : NormalizedEvent) (t : ProviderEvent) (by : Role) → Given (now (base .entry)) (now (ours .entry)) (now (theirs .entry)) (now (role .entry)) b o t by
         → WroteWithin max-refused-bytes (now (out .entry)) (now (out .exit)) pen r (refusalsF .enc ((merge b o t by) .refused))) ⌝ }
 {
-    report_list(pen, out, 2, is_owner(role), writer(role), base, ours, fields_of(theirs))
+    report_list(
+        pen,
+        out,
+        REFUSED,
+        is_owner(role),
+        writer(role),
+        base,
+        ours,
+        fields_of(theirs),
+    )
 }

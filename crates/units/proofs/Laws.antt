@@ -134,8 +134,8 @@ module _ (which : ℕ) (owner : Bool) (base ours theirs : List ℕ) where
       let n : k + 1 - from ≡ suc (k - from) = omega arith in
       let j : unitItems which k b o t owned ≡ unitItems which k (unitBytes base k) (unitBytes ours k) (unitBytes theirs k) (ownedUnit owner k) = rw (e, f, g, i) in
       let l : unitItems which k (unitBytes base k) (unitBytes ours k) (unitBytes theirs k) (ownedUnit owner k)
-            ≡ unitItems which (from + (k - from)) (unitBytes base (from + (k - from))) (unitBytes ours (from + (k - from))) (unitBytes theirs (from + (k - from))) (ownedUnit owner (from + (k - from)))
-            = ap (λ (k : ℕ). unitItems which k (unitBytes base k) (unitBytes ours k) (unitBytes theirs k) (ownedUnit owner k)) m in
+      ≡ unitItems which (from + (k - from)) (unitBytes base (from + (k - from))) (unitBytes ours (from + (k - from))) (unitBytes theirs (from + (k - from))) (ownedUnit owner (from + (k - from)))
+      = ap (λ (k : ℕ). unitItems which k (unitBytes base k) (unitBytes ours k) (unitBytes theirs k) (ownedUnit owner k)) m in
       ap (λ (l : List (List ℕ)). unitsItems which owner base ours theirs from (k - from) ++ l) (j ∙ l) ∙ (units-snoc from (k - from) ∙ ap (unitsItems which owner base ours theirs from) (sym n))
 
 pub part-of-unit : (s : List ℕ) (k : ℕ) (c d : Cursor) (r : List ℕ) → c ≡ unitAt s k → d ≡ skipUnit k s c → r ≡ span s (c .at) (d .at) → r ≡ unitBytes s k

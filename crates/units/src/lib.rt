@@ -4,9 +4,10 @@ ghost use mathlib.Core.List.{[], _∷_};
 ghost use Prim.Native.Nat.{_-_};
 ghost use Rattle.pens.specs.Writing.{Wrote, Listed};
 ghost use Rattle.units.specs.Units.{valueItem, conflictItems, refusedItems, unitItems, ownedUnit, skipUnit, unitAt, unitBytes, unitsItems};
-
-use frame::Cursor;
+use comparison::CONFLICTS;
+use comparison::MERGED;
 use comparison::Verdict;
+use frame::Cursor;
 use pens::Pen;
 use pens::Sheet;
 
@@ -72,15 +73,24 @@ pub fn unit_part(s: &[u8], k: u8) -> &[u8]
     comparison::part(s, from, to)
 }
 
-// Writes what one unit, no attendee, has of the merged fields (which = 0), of the conflicts (1), of the refused (2).
-fn unit(sheet: Sheet, out: &mut [u8], which: u8, k: u8, b: &[u8], o: &[u8], t: &[u8], owned: bool) -> Sheet
+// Writes what one unit, no attendee, has of the merged fields, of the conflicts or of the refused, by which is asked for.
+fn unit(
+    sheet: Sheet,
+    out: &mut [u8],
+    which: u8,
+    k: u8,
+    b: &[u8],
+    o: &[u8],
+    t: &[u8],
+    owned: bool,
+) -> Sheet
     ensures { λ r. ⌜ Listed (now (out .entry)) (now (out .exit)) (sheet .pen) (sheet .count) (r .pen) (r .count) (unitItems which k (now (b .entry)) (now (o .entry)) (now (t .entry)) owned) ⌝ }
 {
     let v = comparison::verdict_of(b, o, t, owned);
-    if which == 0 {
+    if which == MERGED {
         return unit_value(sheet, out, v, o, t);
     }
-    if which == 1 {
+    if which == CONFLICTS {
         return unit_conflict(sheet, out, v, k, b, o, t);
     }
     unit_refused(sheet, out, v, k)
@@ -109,7 +119,15 @@ fn valued(pen: Pen, out: &mut [u8], k: u8, part: &[u8]) -> Pen
     p.part(out, part)
 }
 
-fn unit_conflict(sheet: Sheet, out: &mut [u8], v: Verdict, k: u8, b: &[u8], o: &[u8], t: &[u8]) -> Sheet
+fn unit_conflict(
+    sheet: Sheet,
+    out: &mut [u8],
+    v: Verdict,
+    k: u8,
+    b: &[u8],
+    o: &[u8],
+    t: &[u8],
+) -> Sheet
     ensures { λ r. ⌜ Listed (now (out .entry)) (now (out .exit)) (sheet .pen) (sheet .count) (r .pen) (r .count) (conflictItems v k (now (b .entry)) (now (o .entry)) (now (t .entry))) ⌝ }
 {
     let pen = sheet.pen;
@@ -139,14 +157,33 @@ fn unit_refused(sheet: Sheet, out: &mut [u8], v: Verdict, k: u8) -> Sheet
 }
 
 // The units from one to before another.
-pub fn units(sheet: Sheet, out: &mut [u8], which: u8, from: u8, to: u8, base: &[u8], ours: &[u8], theirs: &[u8], owner: bool) -> Sheet
+pub fn units(
+    sheet: Sheet,
+    out: &mut [u8],
+    which: u8,
+    from: u8,
+    to: u8,
+    base: &[u8],
+    ours: &[u8],
+    theirs: &[u8],
+    owner: bool,
+) -> Sheet
     ensures { λ r. ⌜ Listed (now (out .entry)) (now (out .exit)) (sheet .pen) (sheet .count) (r .pen) (r .count) (unitsItems which owner (now (base .entry)) (now (ours .entry)) (now (theirs .entry)) from (to - from)) ⌝ }
 {
     let mut h = sheet;
     let mut k = from;
     while k < to {
         let owned = owned_unit(owner, k);
-        h = unit(h, out, which, k, unit_part(base, k), unit_part(ours, k), unit_part(theirs, k), owned);
+        h = unit(
+            h,
+            out,
+            which,
+            k,
+            unit_part(base, k),
+            unit_part(ours, k),
+            unit_part(theirs, k),
+            owned,
+        );
         k += 1;
     }
     h
@@ -161,4 +198,3 @@ fn owned_unit(owner: bool, k: u8) -> bool
     }
     owner
 }
-

@@ -46,7 +46,7 @@ same-length : tie.Need-same-length Inv-loop μ-loop
 same-length c = c .before .loop .inv .1 .pen .long
 
 returns : tie.Need-returns Inv-loop μ-loop
-returns c = 
+returns c =
     let e : c .before .loop .i ≡ c .before .before .entry-count .result = omega (arith, c .before .loop .inv .0, c .loop-test .left) in
     laws.listed-as (c .before .loop .inv .1) (ap (ourItems (c .before .before .before .before .before .before .before .before .args .which) (c .before .before .before .before .before .before .before .before .args .owner) (c .before .before .before .before .before .before .before .before .args .me .now) (c .before .before .before .before .before .before .before .before .args .base .now) (c .before .before .before .before .before .before .before .before .args .ours .now) (c .before .before .before .before .before .before .before .before .args .theirs .now)) (e ∙ c .before .before .entry-count .ensures))
 

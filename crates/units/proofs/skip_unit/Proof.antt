@@ -1,5 +1,4 @@
 use Rattle.units.proofs.Laws as laws
-
 use mathlib.Core.Path.{_∙_}
 use Prim.Native.Nat.{_≤_}
 use borrow.Author.Needs.{needs}
@@ -70,7 +69,7 @@ tag-requires-2 : tie.Need-tag-requires-2
 tag-requires-2 c κs = search needs
 
 returns-11 : tie.Need-returns-11
-returns-11 c = 
+returns-11 c =
     let k = c .before .before .before .before .before .before .before .before .before .before .before .before .args .k in
     let ks : 10 ≤ k = laws.past (laws.past (laws.past (laws.past (laws.past (laws.past (laws.past (laws.past (laws.past (laws.past (search needs) (c .before .before .before .before .before .before .before .before .before .before .if1 .left)) (c .before .before .before .before .before .before .before .before .before .if2 .left)) (c .before .before .before .before .before .before .before .before .if3 .left)) (c .before .before .before .before .before .before .before .if4 .left)) (c .before .before .before .before .before .before .if5 .left)) (c .before .before .before .before .before .if6 .left)) (c .before .before .before .before .if7 .left)) (c .before .before .before .if8 .left)) (c .before .before .if9 .left)) (c .before .if10 .left) in
     c .tag2 .ensures ∙ laws.unit-10 (c .before .before .before .before .before .before .before .before .before .before .before .before .args .s .now) (c .before .before .before .before .before .before .before .before .before .before .before .before .args .c) k ks

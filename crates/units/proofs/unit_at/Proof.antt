@@ -1,6 +1,5 @@
 use Rattle.units.specs.Units.{unitAt}
 use Rattle.units.proofs.Laws as laws
-
 use mathlib.Core.Path.{_≡_, ap, _∙_}
 use Prim.Native.Nat.{_-_, _≤_}
 use borrow.Author.Needs.{needs}

@@ -1,5 +1,4 @@
 use Rattle.units.proofs.Laws as laws
-
 use borrow.Author.Needs.{needs}
 use Rattle.units.proofs.unit_part.Statement.{statement}
 use Rattle.units.proofs.unit_part.Tie as tie

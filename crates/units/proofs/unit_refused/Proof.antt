@@ -1,7 +1,6 @@
 use borrow.Author.Tests.{not-true, not-false}
 use Rattle.units.proofs.Laws as laws
 use Rattle.pens.proofs.Laws as pens
-
 use mathlib.Core.Path.{sym, _∙_}
 use borrow.Author.Needs.{needs}
 use Rattle.units.proofs.unit_refused.Statement.{statement}

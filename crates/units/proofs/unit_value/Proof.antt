@@ -1,5 +1,4 @@
 use Rattle.units.proofs.Laws as laws
-
 use mathlib.Core.Path.{sym, _∙_}
 use borrow.Author.Needs.{needs}
 use Rattle.units.proofs.unit_value.Statement.{statement}

@@ -2,7 +2,6 @@ use Rattle.pens.specs.Writing.{Listed}
 use Rattle.units.specs.Units.{unitsItems}
 use Rattle.units.proofs.Laws as laws
 use Rattle.pens.proofs.Laws as pens
-
 use mathlib.Core.Path.{_≡_, ap}
 use Prim.Native.Nat.{_-_, _≤_}
 use native.Mathlib.Omega.{arith}
@@ -41,14 +40,17 @@ loop-less : tie.Need-loop-less Inv-loop μ-loop
 loop-less c = search needs
 
 loop-again : tie.Need-loop-again Inv-loop μ-loop
-loop-again c = (search needs, search needs,
-    laws.listed-as (pens.listed-then (c .before .before .before .before .before .before .before .before .before .loop .inv .2) (c .before .before .unit .ensures)) (laws.units-more (c .before .before .before .before .before .before .before .before .before .before .before .before .before .before .args .which) (c .before .before .before .before .before .before .before .before .before .before .before .before .before .before .args .owner) (c .before .before .before .before .before .before .before .before .before .before .before .before .before .before .args .base .now) (c .before .before .before .before .before .before .before .before .before .before .before .before .before .before .args .ours .now) (c .before .before .before .before .before .before .before .before .before .before .before .before .before .before .args .theirs .now) (c .before .before .before .before .before .before .before .before .before .before .before .before .before .before .args .from) (c .before .before .before .before .before .before .before .before .before .loop .k) (c .before .before .before .before .before .before .before .before .before .loop .inv .0) _ _ _ _ (c .before .before .before .before .before .unit-part .ensures) (c .before .before .before .before .unit-part2 .ensures) (c .before .before .before .unit-part3 .ensures) (c .before .before .before .before .before .before .before .owned-unit .ensures)))
+loop-again c = (
+  search needs,
+  search needs,
+  laws.listed-as (pens.listed-then (c .before .before .before .before .before .before .before .before .before .loop .inv .2) (c .before .before .unit .ensures)) (laws.units-more (c .before .before .before .before .before .before .before .before .before .before .before .before .before .before .args .which) (c .before .before .before .before .before .before .before .before .before .before .before .before .before .before .args .owner) (c .before .before .before .before .before .before .before .before .before .before .before .before .before .before .args .base .now) (c .before .before .before .before .before .before .before .before .before .before .before .before .before .before .args .ours .now) (c .before .before .before .before .before .before .before .before .before .before .before .before .before .before .args .theirs .now) (c .before .before .before .before .before .before .before .before .before .before .before .before .before .before .args .from) (c .before .before .before .before .before .before .before .before .before .loop .k) (c .before .before .before .before .before .before .before .before .before .loop .inv .0) _ _ _ _ (c .before .before .before .before .before .unit-part .ensures) (c .before .before .before .before .unit-part2 .ensures) (c .before .before .before .unit-part3 .ensures) (c .before .before .before .before .before .before .before .owned-unit .ensures)),
+)
 
 same-length : tie.Need-same-length Inv-loop μ-loop
 same-length c = search needs
 
 returns : tie.Need-returns Inv-loop μ-loop
-returns c = 
+returns c =
     let e : c .before .loop .k - c .before .before .before .before .before .before .args .from ≡ c .before .before .before .before .before .before .args .to - c .before .before .before .before .before .before .args .from = omega (arith, c .before .loop .inv .0, c .before .loop .inv .1, c .loop-test .left) in
     laws.listed-as (c .before .loop .inv .2) (ap (unitsItems (c .before .before .before .before .before .before .args .which) (c .before .before .before .before .before .before .args .owner) (c .before .before .before .before .before .before .args .base .now) (c .before .before .before .before .before .before .args .ours .now) (c .before .before .before .before .before .before .args .theirs .now) (c .before .before .before .before .before .before .args .from)) e)
 

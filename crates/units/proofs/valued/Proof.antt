@@ -1,5 +1,4 @@
 use Rattle.pens.proofs.Laws as pens
-
 use borrow.Author.Needs.{needs}
 use Rattle.units.proofs.valued.Statement.{statement}
 use Rattle.units.proofs.valued.Tie as tie
