@@ -1,6 +1,6 @@
 // merge.rs: the three-way merge of an event, over encoded fields, an encoded event and an encoded role. Whatever bytes follow one of
-// them are not looked at. Each thing that a merge hands back has a function of its own; the merged event has over 8 attendees where
-// `merged_attendees` says so.
+// them are not looked at. Each thing that a merge hands back has a function of its own; refusal 6 is `merged_attendees` over 8. What is
+// lent has one lifetime, so that parts of two buffers can be lent together.
 ghost use mathlib.Core.Path.{_≡_};
 ghost use Prim.Native.Nat.{_≤_};
 ghost use mathlib.Core.List.{_∷_};
@@ -243,7 +243,7 @@ fn report_list<'a>(
 }
 
 // How many attendees the merged event has.
-pub fn merged_attendees<'a>(base: &'a [u8], ours: &'a [u8], theirs: &'a [u8], role: &[u8]) -> u8
+pub fn merged_attendees<'a>(base: &'a [u8], ours: &'a [u8], theirs: &'a [u8], role: &'a [u8]) -> u8
     ensures { λ r. ⌜ ((b o : NormalizedEvent) (t : ProviderEvent) (by : Role) → Given (now (base .entry)) (now (ours .entry)) (now (theirs .entry)) (now (role .entry)) b o t by
         → r ≡ length ((merge b o t by) .event .fields .attendees)) ⌝ }
 {
@@ -257,7 +257,7 @@ pub fn merged_event<'a>(
     base: &'a [u8],
     ours: &'a [u8],
     theirs: &'a [u8],
-    role: &[u8],
+    role: &'a [u8],
 ) -> Pen
     ensures { λ r. ⌜ ((b o : NormalizedEvent) (t : ProviderEvent) (by : Role) → Given (now (base .entry)) (now (ours .entry)) (now (theirs .entry)) (now (role .entry)) b o t by
         → Wrote (now (out .entry)) (now (out .exit)) pen r (eventF .enc ((merge b o t by) .event))) ⌝ }
@@ -292,7 +292,7 @@ pub fn conflicts<'a>(
     base: &'a [u8],
     ours: &'a [u8],
     theirs: &'a [u8],
-    role: &[u8],
+    role: &'a [u8],
 ) -> Pen
     ensures { λ r. ⌜ ((b o : NormalizedEvent) (t : ProviderEvent) (by : Role) → Given (now (base .entry)) (now (ours .entry)) (now (theirs .entry)) (now (role .entry)) b o t by
         → WroteWithin max-conflict-bytes (now (out .entry)) (now (out .exit)) pen r (conflictsF .enc ((merge b o t by) .conflicts))) ⌝ }
@@ -316,7 +316,7 @@ pub fn refused<'a>(
     base: &'a [u8],
     ours: &'a [u8],
     theirs: &'a [u8],
-    role: &[u8],
+    role: &'a [u8],
 ) -> Pen
     ensures { λ r. ⌜ ((b o : NormalizedEvent) (t : ProviderEvent) (by : Role) → Given (now (base .entry)) (now (ours .entry)) (now (theirs .entry)) (now (role .entry)) b o t by
         → WroteWithin max-refused-bytes (now (out .entry)) (now (out .exit)) pen r (refusalsF .enc ((merge b o t by) .refused))) ⌝ }

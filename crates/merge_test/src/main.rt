@@ -64,7 +64,7 @@ fn flag(b: bool) -> u8 {
 
 // Whether all was written; then the number of attendees, whether the event changed, the numbers of conflicts and of refused units, the
 // event's time, and the replies of two attendees, where they stand in `both`.
-fn merge_line<'a>(base: &'a [u8], ours: &'a [u8], theirs: &'a [u8], role: &[u8]) {
+fn merge_line<'a>(base: &'a [u8], ours: &'a [u8], theirs: &'a [u8], role: &'a [u8]) {
     let mut out: [u8; 256] = [0; 256];
     let mut told: [u8; 256] = [0; 256];
     let mut kept: [u8; 256] = [0; 256];
