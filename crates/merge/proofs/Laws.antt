@@ -13,7 +13,7 @@ use Rattle.model.specs.Limits.{max-count, max-conflict-bytes, max-refused-bytes
 use Rattle.model.specs.Maps.{same-text}
 use Rattle.model.specs.Formats.{shortText, tag, u32, idsF, fieldsF, eventF, conflictF, refusedF, conflictsF, refusalsF}
 use Rattle.model.specs.Merge.{merge}
-use Rattle.model.specs.Claims.{Short}
+use Rattle.model.specs.Demands.{Short}
 use Rattle.model.proofs.Theorems.{no-merge-passes}
 use Rattle.frame.specs.Read.{skips, start}
 use Rattle.frame.specs.Meaning.{textAt}

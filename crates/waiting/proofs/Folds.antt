@@ -123,6 +123,7 @@ pub folds-none : (r : ResourceId) (w : List ℕ) (n : ℕ) → resourceId .Ok r 
 folds-none r w n k N l o e = record {
   is = λ s h. sym (may-none o e (queue r s) (lists.back-none (queue r s) (sym (N .is s h) ∙ l)));
   makes = λ s h y. splices.kept r k h w (change-last (absorb o e) (queue r s)) (last-none (absorb o e) (queue r s) (lists.back-none (queue r s) (sym (N .is s h) ∙ l)));
+  stays = λ s h y. h;
 }
 
 pub folds-full : (r : ResourceId) (w : List ℕ) (n i c : ℕ) → resourceId .Ok r → Reads (λ s. length (queue r s)) w n → Reads (λ s. below r (s .edits)) w i → 0 < n
@@ -134,6 +135,7 @@ folds-full r w n i c k N I l q m o e = record {
       let d : c ≡ length (M .e .absorbed) = q ∙ M .ids .count in
       sym (may-some o e (queue r s) (M .e) (M .got) ∙ lt-leb (length (M .e .absorbed) + 1) 8 (omega arith));
   makes = λ s h y. absurd (tables.false-true y);
+  stays = λ s h y. h;
 }
 
 times-33 : (a b : ℕ) → a ≤ b → a * 33 ≤ b * 33
@@ -165,6 +167,7 @@ folds r w w′ operation expiry id n i c end k N I l q m t E o e B = record {
   makes = λ s h y.
       let b : n ≡ length (queue r s) = N .is s h in
       subst (λ (x : Queue). Keeps (put-queue r x s) w′) (ap (λ (x : ℕ). change-at (x - 1) (absorb o e) (queue r s)) b ∙ lists.change-last-is (absorb o e) (queue r s)) (changed .makes s h);
+  stays = λ s h y. absurd (tables.false-true (sym y));
 }
   where
     put : (s : SyncState) → Keeps s w → (x : Pending) → nth (n - 1) (queue r s) ≡ some x → PendingFits document01 r x

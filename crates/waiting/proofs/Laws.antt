@@ -283,6 +283,7 @@ appends-full r w n R l p = record {
       let b : suc (all-entries s) ≡ all-entries (put-queue r (queue r s ++ (p ∷ [])) s) = sym (more-count r p h) in
       sym (lt-leb (all-entries (put-queue r (queue r s ++ (p ∷ [])) s)) 6 (omega arith));
   makes = λ s h y. absurd (tables.false-true y);
+  stays = λ s h y. h;
 }
 
 inserted-set : (i : ℕ) (x y : List ℕ) (t : Table) → i ≤ length t → set (inserted i x t) i y ≡ inserted i y t
@@ -320,6 +321,7 @@ appends r w w1 w2 b id operation role expiry a n i M q A l N I O F e B =
           sym (le-leb (all-entries (put-queue r (queue r s ++ (new-pending e ∷ [])) s)) 6 (omega arith));
       makes = λ s h y. joins r w w1 w2 n i (new-fields b id operation role expiry) (new-pending e) k N I O F (fields.new-slot r e b id operation role expiry k (M .is ∙ ap name-slot q) B)
           (fields.new-fits r e id operation role expiry B) .makes s h;
+      stays = λ s h y. absurd (tables.false-true (sym y));
     }
 
 pub fills : (w w1 w2 w3 w4 w5 b id operation role expiry : List ℕ) (i : ℕ) → i < getD w 20002 0 → Rewrites i 0 33 b w w1 → Rewrites i 33 33 id w1 w2 → Rewrites i 66 1469 operation w2 w3
