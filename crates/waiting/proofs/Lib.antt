@@ -8,3 +8,4 @@ pub mod Keys
 pub mod Laws
 pub mod Folds
 pub mod Moves
+pub mod Reading

@@ -2,12 +2,13 @@
 use Prim.Native.Nat.{ℕ, zero, suc, _+_, _-_, _*_, _≤_, _<_}
 use native.Mathlib.Omega.{arith}
 use mathlib.Core.Path.{_≡_, refl, sym, ap, ap₂, _∙_, subst}
-use mathlib.Core.List.{List, [], _∷_, _++_}
+use mathlib.Core.List.{List, [], _∷_, _++_, append-nil}
 use mathlib.Core.Option.{Option, none, some}
-use lib.ListN.{length, take, drop, getD, set, length-append, length-drop}
+use lib.ListN.{length, take, drop, getD, set, length-append, length-drop, drop-of-length-le}
 use lib.Seq.{length-take-le}
 use Rattle.spans.specs.Bytes.{zeros}
 use Rattle.tables.specs.Table.{Table}
+use Rattle.tables.proofs.Laws as tables
 use Rattle.lent.specs.Lent.{placed}
 use Rattle.model.specs.Seam.{ResourceId}
 use Rattle.model.specs.State.{Pending, Queue, SyncState}
@@ -85,3 +86,10 @@ moves from to w w1 w2 x n i j k N I l e E f = record {
       let A = laws.entry-at from h j i (20002 + (1 + (i + j) * 5940)) (g .0) k refl (I .is s h) (g .1) (omega arith) in
       rw (g .1) (f from (g .0) k (A .fits) (e ∙ A .slot) .makes (put-queue from (without j (queue from s)) s) (E .makes s h));
 }
+
+pub copied : (x w y : List ℕ) (at : ℕ) → length x ≡ 5940 → at + 5940 ≤ length w → y ≡ take (at + 5940 - at) (drop at w) ++ drop (length (take (at + 5940 - at) (drop at w))) x → y ≡ take 5940 (drop at w)
+copied x w y at l h e =
+    let k : at + 5940 - at ≡ 5940 = omega arith in
+    let n : length (take 5940 (drop at w)) ≡ 5940 = tables.part-length w at 5940 h in
+    let d : drop (length (take 5940 (drop at w))) x ≡ [] = drop-of-length-le x {i = length (take 5940 (drop at w))} (omega arith) in
+    e ∙ ap (λ (m : ℕ). take m (drop at w) ++ drop (length (take m (drop at w))) x) k ∙ ap (λ (z : List ℕ). take 5940 (drop at w) ++ z) d ∙ append-nil (take 5940 (drop at w))

@@ -5,3 +5,5 @@ pub mod Slots
 pub mod Entries
 -- Texts one behind the other.
 pub mod Texts
+-- What the readers of an entry give.
+pub mod Reading
