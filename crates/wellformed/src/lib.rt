@@ -1,0 +1,1 @@
+// Whether a lent buffer holds a well-formed state: refusal 2.
