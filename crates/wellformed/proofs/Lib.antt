@@ -1,1 +1,3 @@
 pub mod Fitted
+pub mod FieldLaws
+pub mod Orders
