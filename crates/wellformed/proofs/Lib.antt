@@ -1,3 +1,4 @@
 pub mod Fitted
 pub mod FieldLaws
 pub mod Orders
+pub mod EntryLaws

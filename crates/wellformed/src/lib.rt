@@ -225,3 +225,15 @@ fn keys_ordered(region: &[u8], stride: usize) -> bool
     }
     true
 }
+
+// Whether the region holds some queues.
+pub fn entries_in(region: &[u8]) -> bool
+    requires { ⌜ length (now region) ≡ 35641 ⌝ }
+    ensures { λ r. ⌜ (r ≡ true → EditsIn (now (region .entry))) × (EditsIn (now (region .entry)) → r ≡ true) ⌝ }
+{
+    let end = entries(Cursor { at: 0, ok: true }, region);
+    if !end.ok {
+        return false;
+    }
+    keys_ordered(region, ENTRY)
+}

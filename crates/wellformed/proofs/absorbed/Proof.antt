@@ -1,3 +1,7 @@
+use denote.Ref.{now}
+use Rattle.wellformed.proofs.FieldLaws.{wide-by}
+use Rattle.format.proofs.FormatLaws.{list-law}
+use Rattle.model.proofs.FormatsLaws.{shortText-law}
 use native.Mathlib.Omega.{arith}
 use borrow.Author.Needs.{needs}
 use Rattle.wellformed.proofs.absorbed.Statement.{statement}
@@ -14,7 +18,7 @@ filled-requires : tie.Need-filled-requires
 filled-requires c κs = search needs
 
 returns : tie.Need-returns
-returns c = ?
+returns c = wide-by (list-law shortText-law 8) 265 (search needs) (now (c .before .before .before .args .s)) (c .before .before .before .args .place) (c .before .edit-ids .ensures) (c .filled .ensures)
 
 pub absorbed-spec : {M : Type 1} → statement M
 absorbed-spec = tie.close (tie.spec edit-ids-requires filled-requires returns)

@@ -1,3 +1,5 @@
+use denote.Ref.{now}
+use Rattle.wellformed.proofs.EntryLaws.{entry-by}
 use native.Mathlib.Omega.{arith}
 use borrow.Author.Needs.{needs}
 use Rattle.wellformed.proofs.entry.Statement.{statement}
@@ -42,7 +44,7 @@ absorbed-requires : tie.Need-absorbed-requires
 absorbed-requires c κs = search needs
 
 returns : tie.Need-returns
-returns c = ?
+returns c = entry-by (now (c .before .before .before .before .before .before .before .before .before .before .args .s)) (c .before .before .before .before .before .before .before .before .before .before .args .place) (c .before .before .before .before .before .before .before .before .resource .ensures) (c .before .before .before .before .before .before .before .edit-id .ensures) (c .before .before .before .before .before .before .operation .ensures) (c .before .before .before .before .before .role .ensures) (c .before .before .before .before .expiry .ensures) (c .before .before .before .conflicts .ensures) (c .before .before .refused .ensures) (c .before .collided .ensures) (c .absorbed .ensures)
 
 pub entry-spec : {M : Type 1} → statement M
 entry-spec =

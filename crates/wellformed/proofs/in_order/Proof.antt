@@ -1,3 +1,5 @@
+use denote.Ref.{now}
+use Rattle.wellformed.proofs.Orders.{pair-is}
 use native.Mathlib.Omega.{arith}
 use borrow.Author.Needs.{needs}
 use Rattle.wellformed.proofs.in_order.Statement.{statement}
@@ -37,19 +39,19 @@ enum-told : tie.Need-enum-told
 enum-told c = search needs
 
 returns : tie.Need-returns
-returns c = ?
+returns c = pair-is (now (c .before .before .before .before .before .before .args .region)) (c .before .before .before .before .before .before .args .stride) (c .before .before .before .before .before .before .args .at) (c .before .before .key-order .ensures) (c .enum-told .given .1)
 
 enum-told-2 : tie.Need-enum-told-2
 enum-told-2 c = search needs
 
 returns-2 : tie.Need-returns-2
-returns-2 c = ?
+returns-2 c = pair-is (now (c .before .before .before .before .before .before .args .region)) (c .before .before .before .before .before .before .args .stride) (c .before .before .before .before .before .before .args .at) (c .before .before .key-order .ensures) (c .enum-told2 .given .1)
 
 enum-told-3 : tie.Need-enum-told-3
 enum-told-3 c = search needs
 
 returns-3 : tie.Need-returns-3
-returns-3 c = ?
+returns-3 c = pair-is (now (c .before .before .before .before .before .before .args .region)) (c .before .before .before .before .before .before .args .stride) (c .before .before .before .before .before .before .args .at) (c .before .before .key-order .ensures) (c .enum-told3 .given .1)
 
 pub in-order-spec : {M : Type 1} → statement M
 in-order-spec =
