@@ -1,0 +1,26 @@
+use denote.Ref.{now}
+use mathlib.Core.Path.{_≡_, refl, sym, ap, _∙_}
+use borrow.Author.Tests.{not-true, not-false}
+use Rattle.regions.proofs.Slots as slots
+use native.Mathlib.Omega.{arith}
+use borrow.Author.Needs.{needs}
+use Rattle.regions.proofs.named_in.Statement.{statement}
+use Rattle.regions.proofs.named_in.Tie as tie
+use Rattle.regions.proofs.named_in.Reads as reads
+use Rattle.regions.proofs.named_in.Lts as lts
+use Rattle.regions.proofs.field_at.Reads as field-at-reads
+
+field-at-requires : tie.Need-field-at-requires
+field-at-requires c κs = search needs
+
+returns : tie.Need-returns
+returns c = slots.named-stop (c .before .before .before .args .len) (c .before .before .before .args .value) (now (c .before .before .before .args .slot)) (sym (c .before .field-at .ensures) ∙ not-true (c .before .field-at .result) (c .if1 .taken))
+
+field-at-requires-2 : tie.Need-field-at-requires-2
+field-at-requires-2 c κs = search needs
+
+returns-2 : tie.Need-returns-2
+returns-2 c = slots.named-last (c .before .before .before .before .args .len) (c .before .before .before .before .args .value) (now (c .before .before .before .before .args .slot)) (sym (c .before .before .field-at .ensures) ∙ not-false (c .before .before .field-at .result) (c .before .if1 .left)) (c .field-at2 .ensures)
+
+pub named-in-spec : {M : Type 1} → statement M
+named-in-spec = tie.close (tie.spec field-at-requires returns field-at-requires-2 returns-2)

@@ -1,0 +1,26 @@
+use denote.Ref.{now}
+use mathlib.Core.Path.{_≡_, refl, sym, ap, _∙_}
+use Rattle.regions.proofs.Fields as fields
+use native.Mathlib.Omega.{arith}
+use borrow.Author.Needs.{needs}
+use Rattle.regions.proofs.purpose.Statement.{statement}
+use Rattle.regions.proofs.purpose.Tie as tie
+use Rattle.regions.proofs.purpose.Reads as reads
+use Rattle.regions.proofs.purpose.Lts as lts
+use Rattle.frame.proofs.Cursor.byte.Reads as byte-reads
+use Rattle.frame.proofs.Cursor.resource_id.Reads as resource-id-reads
+
+byte-requires : tie.Need-byte-requires
+byte-requires c κs = search needs
+
+returns : tie.Need-returns
+returns c = fields.purpose-list (now (c .before .before .before .before .before .args .s)) (c .before .before .before .byte .result .next) (c .before .before .before .byte .result .value) (c .before .before .before .byte .ensures) (c .if1 .taken)
+
+resource-id-requires : tie.Need-resource-id-requires
+resource-id-requires c κs = search needs
+
+returns-2 : tie.Need-returns-2
+returns-2 c = fields.purpose-name (now (c .before .before .before .before .before .before .args .s)) (c .before .before .before .before .byte .result .next) (c .before .before .before .before .byte .result .value) (c .before .before .before .before .byte .ensures) (c .before .if1 .left) (c .resource-id .result) (c .resource-id .ensures)
+
+pub purpose-spec : {M : Type 1} → statement M
+purpose-spec = tie.close (tie.spec byte-requires returns resource-id-requires returns-2)
