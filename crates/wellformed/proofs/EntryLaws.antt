@@ -39,7 +39,7 @@ use Rattle.frame.specs.declared.Cursor.{Cursor}
 use Rattle.frame.proofs.Steps.{skips-pair, got-some}
 use Rattle.frame.proofs.Spans.{skips-written}
 use Rattle.wellformed.specs.Fields.{wide}
-use Rattle.wellformed.specs.Entries.{Entry, entryF, entriesF, notGreater, orderedFrom, ordered, EditsIn}
+use Rattle.wellformed.specs.Entries.{Entry, entryF, entriesF, notGreater, orderedFrom, ordered, QueuesIn}
 use Rattle.wellformed.proofs.FieldLaws.{wide-law}
 
 -- ---- an entry is read field by field
@@ -347,7 +347,7 @@ queues-rise x (y ∷ l) h =
     subst (λ (m : Map ResourceId Queue). T (rising by-name (keys (put-first x m)))) (sym (L .is))
     (put-rises x (y .0) (L .queue) (L .rest) (k .0) (subst (λ (m : Map ResourceId Queue). T (rising by-name (keys m))) (L .is) i))
 
-pub edits-in : (b : List ℕ) → Slots b → (r : Bool) → r ≡ ordered (slotsOf 5940 b) → r ≡ true → EditsIn b
+pub edits-in : (b : List ℕ) → Slots b → (r : Bool) → r ≡ ordered (slotsOf 5940 b) → r ≡ true → QueuesIn b
 unfolding document01
 edits-in b S r e h =
     let m : Map ResourceId Queue = queues (S .l) in
@@ -368,7 +368,7 @@ edits-in b S r e h =
 
 -- ---- and back
 
-pub slots-in : (b : List ℕ) → EditsIn b → Slots b
+pub slots-in : (b : List ℕ) → QueuesIn b → Slots b
 unfolding document01
 slots-in b E = record {
   l = entries (E .edits);
@@ -402,7 +402,7 @@ edits-ordered r p ((k, p′ ∷ q) ∷ m) a t =
     let u : T (rising by-name (k ∷ keys m)) = and-right (by (by-name r k) true false false) _ t in
     from-next (r, p) (k, p′) (entries-of k q ++ entries m) ∙ both-of _ _ (before-less r k l) (queue-ordered k p′ q (entries m) (λ p. edits-ordered k p m (a .1) u))
 
-pub edits-order : (b : List ℕ) (E : EditsIn b) → ordered (slotsOf 5940 b) ≡ true
+pub edits-order : (b : List ℕ) (E : QueuesIn b) → ordered (slotsOf 5940 b) ≡ true
 unfolding slots-in
 edits-order b E = ap ordered (slots-are b (slots-in b E)) ∙ go (E .edits) (E .fit .each) (E .fit .rises)
   where

@@ -55,7 +55,7 @@ ordered [] = true
 ordered (s ∷ t) = orderedFrom s t
 
 -- the region holds some queues
-pub record EditsIn (b : List ℕ) : Type 0 where
+pub record QueuesIn (b : List ℕ) : Type 0 where
   pub edits : Map ResourceId Queue
   pub fit : EditsFit document01 edits
   pub bytes : b ≡ region 6 5940 (edit-slots document01 edits)

@@ -11,7 +11,7 @@ ghost use Rattle.model.specs.Formats.{resourceId, shortText, operationF, roleF,
 ghost use Rattle.tables.specs.Table.{Holds, slotsOf, text};
 ghost use Rattle.frame.specs.Read.{skips};
 ghost use Rattle.wellformed.specs.Fields.{wide, filled};
-ghost use Rattle.wellformed.specs.Entries.{entryF, entriesF, notGreater, ordered, EditsIn};
+ghost use Rattle.wellformed.specs.Entries.{entryF, entriesF, notGreater, ordered, QueuesIn};
 
 // ---- the waiting entries
 
@@ -229,7 +229,7 @@ fn keys_ordered(region: &[u8], stride: usize) -> bool
 // Whether the region holds some queues.
 pub fn entries_in(region: &[u8]) -> bool
     requires { ⌜ length (now region) ≡ 35641 ⌝ }
-    ensures { λ r. ⌜ (r ≡ true → EditsIn (now (region .entry))) × (EditsIn (now (region .entry)) → r ≡ true) ⌝ }
+    ensures { λ r. ⌜ (r ≡ true → QueuesIn (now (region .entry))) × (QueuesIn (now (region .entry)) → r ≡ true) ⌝ }
 {
     let end = entries(Cursor { at: 0, ok: true }, region);
     if !end.ok {
