@@ -2,3 +2,4 @@ pub mod Fitted
 pub mod FieldLaws
 pub mod Orders
 pub mod EntryLaws
+pub mod Loops

@@ -1,3 +1,4 @@
 pub mod Across
 pub mod Fields
 pub mod Entries
+pub mod Tests
