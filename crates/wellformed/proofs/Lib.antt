@@ -3,3 +3,4 @@ pub mod FieldLaws
 pub mod Orders
 pub mod EntryLaws
 pub mod Loops
+pub mod Flights

@@ -90,3 +90,35 @@ for-is key r at b o w p q f e =
 pub asked-is : (t : Table) (r : List ℕ) (at n : ℕ) → n ≡ countSlots (isFor (take (at + 5940 - at) (drop at r))) t → eqb n 1 ≡ isAsked t (take 5940 (drop at r))
 unfolding isAsked
 asked-is t r at n e = ap (λ (x : ℕ). eqb x 1) (e ∙ ap (λ (x : List ℕ). countSlots (isFor x) t) (tables.part-is r 5940 at))
+
+-- ---- a count
+
+pub one-le : (b : Bool) → one b ≤ 1
+one-le true = omega arith
+one-le false = omega arith
+
+pub count-more : (p : List ℕ → Bool) (stride n at : ℕ) (r : List ℕ) (b : Bool) (k j : ℕ) → 0 < n → b ≡ p (take stride (drop at r)) → j ≡ one b
+    → k + countSlots p (chunks stride n (drop at r)) ≡ k + j + countSlots p (chunks stride (n - 1) (drop (at + stride) r))
+count-more p stride n at r b k j h e d = let c = count-next p stride n at r b h e in omega arith
+
+pub count-done : (p : List ℕ → Bool) (stride n at : ℕ) (r : List ℕ) (k : ℕ) → n ≤ 0 → k + countSlots p (chunks stride n (drop at r)) ≡ k
+count-done p stride n at r k h = let c = count-end p stride n at r h in omega arith
+
+pub count-start : (p : List ℕ → Bool) (stride : ℕ) (r : List ℕ) → countSlots p (slotsOf stride r) ≡ 0 + countSlots p (chunks stride (getD r 0 0) (drop 1 r))
+unfolding slotsOf
+count-start p stride r = omega arith
+
+-- ---- all three tests
+
+pub agree-below : (n : ℕ) (flights entries : Table) (b : Bool) → b ≡ everySlot (isBelow n) flights → b ≡ false → false ≡ agree n flights entries
+unfolding agree
+agree-below n flights entries b e h = rw (sym e ∙ h)
+
+pub agree-asked : (n : ℕ) (flights entries : Table) (b c : Bool) → b ≡ everySlot (isBelow n) flights → b ≡ true → c ≡ everySlot (isAsked flights) entries → c ≡ false → false ≡ agree n flights entries
+unfolding agree
+agree-asked n flights entries b c e h d k = rw (sym e ∙ h, sym d ∙ k)
+
+pub agree-is : (n : ℕ) (flights entries : Table) (b c r : Bool) → b ≡ everySlot (isBelow n) flights → b ≡ true → c ≡ everySlot (isAsked flights) entries → c ≡ true
+    → r ≡ everySlot (isQueued entries) flights → r ≡ agree n flights entries
+unfolding agree
+agree-is n flights entries b c r e h d k i = rw (sym e ∙ h, sym d ∙ k) i
