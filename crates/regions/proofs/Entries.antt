@@ -1,23 +1,22 @@
 -- A table's slots as the slots of entries: a region passes the tests exactly where it is the bytes of a map or a set that fits.
 -- Assumes nothing.
-use Prim.Native.Nat.{ℕ, zero, suc, _+_, _-_, _*_, _^_, _≤_, _<_, Ordering, Ordering·lt, Ordering·eq, Ordering·gt}
+use Prim.Native.Nat.{ℕ, suc, _+_, _-_, _*_, _^_, _≤_, _<_, compare, Ordering, Ordering·lt, Ordering·eq, Ordering·gt}
 use native.Mathlib.Omega.{arith}
 use mathlib.Core.Path.{_≡_, refl, sym, ap, ap₂, _∙_, subst}
-use mathlib.Core.List.{List, [], _∷_, _++_, append-assoc}
+use mathlib.Core.List.{List, [], _∷_, _++_, append-assoc, append-nil}
 use mathlib.Core.Bool.{Bool, true, false, _&&_}
 use borrow.Author.Tests.{lt-ltb, eqb-true}
 use lib.Dec.{T, eqb}
-use lib.ListN.{length, take, drop, getD, length-append, length-replicate, length-drop, take-append-drop}
-use lib.Seq.{take-at, drop-at, take-all, drop-drop}
-use Rattle.format.specs.Format.{Format, Lawful, All, text, number}
+use lib.ListN.{length, take, drop, length-append, length-replicate, length-drop, take-append-drop}
+use lib.Seq.{take-at, drop-at, take-all}
+use Rattle.format.specs.Format.{Format, Lawful, All, text, number, bigEndian}
 use Rattle.spans.specs.Bytes.{zeros, both, allZero}
 use Rattle.spans.specs.Compare.{order}
-use Rattle.spans.specs.declared.Order.{Order}
-use Rattle.tables.specs.Table.{Table, flat, Sized, encTable, slotsOf, text as key-text, keyOk, keysOk, isLess, rising, risingFrom, WellFormed}
+use Rattle.tables.specs.Table.{Table, Sized, encTable, slotsOf, text as key-text, keyOk, keysOk, isLess, rising, risingFrom, WellFormed}
 use Rattle.tables.proofs.Laws as tables
 use Rattle.lent.specs.Lent.{part}
 use Rattle.model.specs.Event.{Text}
-use Rattle.model.specs.State.{Map, Set}
+use Rattle.model.specs.State.{Purpose}
 use Rattle.model.specs.Maps.{by, by-name, by-number, map, keys}
 use Rattle.model.specs.WellFormed.{rising as rise}
 use Rattle.model.specs.Formats.{resourceId, u64}
@@ -27,14 +26,13 @@ use Rattle.model.proofs.FormatsLaws.{resourceId-law, u64-law}
 use Rattle.model.proofs.SavedFormLaws.{purposeF-law}
 use Rattle.model.proofs.Tables.{turned, by-name-turned, compare-turned}
 use Rattle.state.specs.Layout.{padded, field, name-slot, number-key, flight-slot, region}
-use Rattle.state.specs.Fits.{Held, Names}
 use Rattle.state.proofs.Widths.{Within, purpose-within, length-digits}
-use Rattle.state.proofs.Padded.{length-field, length-name, length-number, text-name, text-name-only, text-number, number-is}
+use Rattle.state.proofs.Padded.{length-field, length-name, text-name, text-name-only, text-number, number-is}
 use Rattle.state.proofs.Orders.{flipped, name-order, number-order}
 use Rattle.state.proofs.Rows.{length-rows, sized-rows}
 use Rattle.state.proofs.Regions.{rows-long, flight-long}
 use Rattle.regions.specs.Tests.{filled, isField, isNamed, isFlight, everySlot}
-use Rattle.regions.specs.Inside.{FieldIn, MapIn, NamesIn}
+use Rattle.regions.specs.Inside.{MapIn, NamesIn}
 use Rattle.regions.proofs.Fields.{field-yes, field-no}
 use Rattle.regions.specs.declared.Value.{Value}
 
@@ -209,3 +207,84 @@ module _ {A : Type 0} {f : Format A} {n : ℕ} (F : Lawful f) (W : Within f n) (
     keyed = λ e ok. name-keyed (e .0) (field n f (e .1)) (ok .0);
     ordered = λ a b p q. ap₂ (λ (x y : Text). isLess (order x y)) (text-name (a .0) (field n f (a .1))) (text-name (b .0) (field n f (b .1))) ∙ less-name (a .0) (b .0);
   }
+
+-- ---- names alone
+
+pub name-rows : Rows name-slot (resourceId .Ok) (λ s. s) by-name (filled resourceId) 33 33
+name-rows = record {
+  long = length-name;
+  reads = λ s l e. let k = field-yes resourceId-law 33 s l e in record { entry = k .value; ok = k .ok; is = k .bytes };
+  writes = λ e ok. field-no resourceId-law 33 (name-slot e) (record { value = e; ok = ok; bytes = refl });
+  keyed = λ e ok. ap (keyOk 33) (sym (append-nil (name-slot e))) ∙ name-keyed e [] ok;
+  ordered = λ a b p q. ap₂ (λ (x y : Text). isLess (order x y)) (text-name-only a) (text-name-only b) ∙ less-name a b;
+}
+
+-- ---- slots that start with a request number
+
+less-number : (a b : ℕ) → a < 256 ^ 8 → b < 256 ^ 8 → isLess (order (bigEndian 8 a) (bigEndian 8 b)) ≡ by (by-number a b) true false false
+unfolding by by-number
+less-number a b p q = ap isLess (number-order a b p q ∙ ap flipped (compare-turned a b)) ∙ go (compare a b)
+  where
+    go : (o : Ordering) → isLess (flipped (turned o)) ≡ by o true false false
+    go Ordering·lt = refl
+    go Ordering·eq = refl
+    go Ordering·gt = refl
+
+abbrev FlightOk : ℕ × Purpose → Type 0
+FlightOk e = u64 .Ok (e .0) × purposeF .Ok (e .1)
+
+flight-reads : (s : List ℕ) → length s ≡ 43 → isFlight s ≡ true → Entry flight-slot FlightOk s
+unfolding isFlight number-key number
+flight-reads [] l e = absurd (omega arith)
+flight-reads (x ∷ s) l e =
+    let b = tables.both-true (eqb x 8) _ e in
+    let d = tables.both-true (filled u64 (part 1 8 (x ∷ s))) (filled purposeF (part 9 34 (x ∷ s))) (b .1) in
+    let m : length s ≡ 42 = omega arith in
+    let k = field-yes u64-law 8 (part 0 8 s) (tables.part-length s 0 8 (omega arith)) (d .0) in
+    let y = field-yes purposeF-law 34 (part 8 34 s) (tables.part-length s 8 34 (omega arith)) (d .1) in
+    let c : s ≡ u64 .enc (k .value) ++ field 34 purposeF (y .value) = cut 8 34 s m ∙ ap₂ (λ (p q : List ℕ). p ++ q) (k .bytes ∙ number-is (k .value)) (y .bytes) in
+    record { entry = (k .value, y .value); ok = (k .ok, y .ok); is = ap₂ (λ (p : ℕ) (q : List ℕ). p ∷ q) (eqb-true x 8 (b .0)) c }
+
+flight-writes : (e : ℕ × Purpose) → FlightOk e → isFlight (flight-slot e) ≡ true
+unfolding isFlight number-key number
+flight-writes e ok =
+    let l : length (field 34 purposeF (e .1)) ≡ 34 = length-field purpose-within (e .1) (ok .1) in
+    let p : part 1 8 (flight-slot e) ≡ bigEndian 8 (e .0) = cut-first 8 (bigEndian 8 (e .0)) (field 34 purposeF (e .1)) (length-digits 8 (e .0)) in
+    let q : part 9 34 (flight-slot e) ≡ field 34 purposeF (e .1) = cut-second 8 34 (bigEndian 8 (e .0)) (field 34 purposeF (e .1)) (length-digits 8 (e .0)) l in
+    ap₂ both
+    (field-no u64-law 8 (part 1 8 (flight-slot e)) (record { value = e .0; ok = ok .0; bytes = p ∙ sym (number-is (e .0)) }))
+    (field-no purposeF-law 34 (part 9 34 (flight-slot e)) (record { value = e .1; ok = ok .1; bytes = q }))
+
+flight-keyed : (e : ℕ × Purpose) → keyOk 9 (flight-slot e) ≡ true
+unfolding keyOk number-key allZero
+flight-keyed e = refl
+
+flight-ordered : (a b : ℕ × Purpose) → FlightOk a → FlightOk b → isLess (order (key-text (flight-slot a)) (key-text (flight-slot b))) ≡ by (by-number (a .0) (b .0)) true false false
+unfolding number
+flight-ordered a b p q =
+    ap₂ (λ (x y : List ℕ). isLess (order x y)) (text-number (a .0) (field 34 purposeF (a .1))) (text-number (b .0) (field 34 purposeF (b .1))) ∙ less-number (a .0) (b .0) (p .0) (q .0)
+
+pub flight-rows : Rows flight-slot FlightOk (λ e. e .0) by-number isFlight 43 9
+flight-rows = record { long = flight-long; reads = flight-reads; writes = flight-writes; keyed = λ e ok. flight-keyed e; ordered = flight-ordered }
+
+-- ---- maps and sets
+
+module _ {K A : Type 0} {order : K → K → Ordering} {k : Format K} {f : Format A} {slot : K × A → List ℕ} {limit stride : ℕ} {b : List ℕ} where
+  pub to-map : Held-in slot (λ e. k .Ok (e .0) × f .Ok (e .1)) (λ e. e .0) order limit stride b → MapIn order k f slot limit stride b
+  unfolding keys
+  to-map H = record { entries = H .rows; held = record { small = H .small; each = H .each; rises = H .rises }; bytes = H .bytes }
+
+  pub of-map : MapIn order k f slot limit stride b → Held-in slot (λ e. k .Ok (e .0) × f .Ok (e .1)) (λ e. e .0) order limit stride b
+  unfolding keys
+  of-map M = record { rows = M .entries; small = M .held .small; each = M .held .each; rises = M .held .rises; bytes = M .bytes }
+
+map-self : (s : List Text) → map (λ x. x) s ≡ s
+unfolding map
+map-self [] = refl
+map-self (x ∷ s) = ap (λ (l : List Text). x ∷ l) (map-self s)
+
+pub to-names : {limit : ℕ} {b : List ℕ} → Held-in name-slot (resourceId .Ok) (λ s. s) by-name limit 33 b → NamesIn limit b
+to-names H = record { names = H .rows; held = record { small = H .small; each = H .each; rises = subst (λ (l : List Text). T (rise by-name l)) (map-self (H .rows)) (H .rises) }; bytes = H .bytes }
+
+pub of-names : {limit : ℕ} {b : List ℕ} → NamesIn limit b → Held-in name-slot (resourceId .Ok) (λ s. s) by-name limit 33 b
+of-names M = record { rows = M .names; small = M .held .small; each = M .held .each; rises = subst (λ (l : List Text). T (rise by-name l)) (sym (map-self (M .names))) (M .held .rises); bytes = M .bytes }

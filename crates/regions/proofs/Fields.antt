@@ -2,22 +2,22 @@
 use Prim.Native.Nat.{ℕ, zero, suc, _+_, _-_, _≤_, _<_}
 use native.Mathlib.Omega.{arith}
 use mathlib.Core.Path.{_≡_, refl, sym, ap, _∙_}
-use mathlib.Core.List.{List, [], _∷_, _++_}
-use mathlib.Core.Option.{Option, none, some}
-use mathlib.Core.Bool.{Bool, true, false}
+use mathlib.Core.List.{List, _++_}
+use mathlib.Core.Option.{none, some}
+use mathlib.Core.Bool.{true}
 use lib.Dec.{lit<}
-use lib.ListN.{length, take, drop, length-append}
-use Rattle.format.specs.Format.{Got, Format, Lawful, via, enum, _∣_, noCase, nothing, below, option, bool, stamp}
+use lib.ListN.{length, drop, length-append}
+use Rattle.format.specs.Format.{Got, Format, Lawful, via, enum, _∣_, noCase, nothing, below, bool}
 use Rattle.format.proofs.FormatLaws.{bool-law, option-law, stamp-law}
 use Rattle.spans.specs.Bytes.{zeros, both, allZero}
 use Rattle.tables.proofs.Laws as tables
 use Rattle.model.specs.Shapes.{listFromTo, listFromFrom, purposeTo, purposeFrom, stagedTo, stagedFrom}
-use Rattle.model.specs.Formats.{resourceId, shortText, u64, eventF, listFromF}
+use Rattle.model.specs.Formats.{resourceId, shortText, eventF, listFromF}
 use Rattle.model.specs.SavedForm.{stagedF, purposeF}
 use Rattle.model.proofs.FormatsLaws.{resourceId-law, shortText-law, u64-law, eventF-law, listFromF-law}
 use Rattle.model.proofs.SavedFormLaws.{stagedF-law, purposeF-law}
-use Rattle.state.specs.Layout.{padded, field}
-use Rattle.frame.specs.Read.{start, stopped, stepped, gotAt, skips, Found}
+use Rattle.state.specs.Layout.{padded}
+use Rattle.frame.specs.Read.{start, stepped, skips, Found}
 use Rattle.frame.proofs.Steps.{rest-at, skips-le, skips-via}
 use Rattle.frame.proofs.Skips.{Few, few-case, few-none, found-below}
 use Rattle.frame.proofs.Means.{means-nothing, nth-first, nth-other, skips-case}

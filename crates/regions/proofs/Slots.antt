@@ -1,15 +1,13 @@
 -- The loop over a table's slots. Assumes nothing.
 use Prim.Native.Nat.{ℕ, zero, suc, _+_, _-_, _*_, _≤_, _<_}
-use native.Mathlib.Nat.{not-suc-le-zero, mul-le-mul-right}
+use native.Mathlib.Nat.{not-suc-le-zero}
 use native.Mathlib.Omega.{arith}
 use mathlib.Core.Path.{_≡_, refl, sym, ap, _∙_, subst}
-use mathlib.Core.List.{List, [], _∷_, _++_}
+use mathlib.Core.List.{List}
 use mathlib.Core.Bool.{Bool, true, false}
-use borrow.Author.Tests.{not-true, not-false, ne-eqb, eq-eqb}
-use lib.Dec.{eqb}
+use borrow.Author.Tests.{ne-eqb, eq-eqb}
 use lib.ListN.{length, take, drop, getD}
-use Rattle.spans.specs.Bytes.{both}
-use Rattle.tables.specs.Table.{Table, chunks, slotsOf, Holds, WellFormed}
+use Rattle.tables.specs.Table.{chunks, slotsOf, Holds, WellFormed}
 use Rattle.tables.proofs.Laws as tables
 use Rattle.lent.specs.Lent.{part}
 use Rattle.lent.proofs.Laws as lent

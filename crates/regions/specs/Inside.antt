@@ -1,13 +1,13 @@
 -- What the bytes of each region of a state are: those of a value that fits. Assumes nothing.
 use Prim.Native.Nat.{ℕ, Ordering}
 use mathlib.Core.Path.{_≡_}
-use mathlib.Core.Bool.{Bool, true}
+use mathlib.Core.Bool.{true}
 use mathlib.Core.List.{List}
 use mathlib.Core.Option.{Option}
 use Rattle.format.specs.Format.{Format, option, stamp, bool}
 use Rattle.tables.specs.Table.{WellFormed, slotsOf}
 use Rattle.lent.specs.Lent.{part}
-use Rattle.model.specs.Event.{Text, ProviderEvent}
+use Rattle.model.specs.Event.{Text}
 use Rattle.model.specs.Seam.{ResourceId}
 use Rattle.model.specs.State.{Map, Set, Pass, Queue}
 use Rattle.model.specs.Limits.{document01}

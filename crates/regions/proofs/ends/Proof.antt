@@ -1,17 +1,13 @@
 use denote.Ref.{now}
-use mathlib.Core.Path.{_≡_, refl, sym, ap, _∙_}
+use mathlib.Core.Path.{sym, ap, _∙_}
 use Rattle.regions.proofs.Fields as fields
 use borrow.Author.Tests.{not-true, not-false}
 use Rattle.spans.specs.Bytes.{both, allZero}
 use Rattle.tables.proofs.Laws as tables
 use lib.ListN.{drop}
-use native.Mathlib.Omega.{arith}
 use borrow.Author.Needs.{needs}
 use Rattle.regions.proofs.ends.Statement.{statement}
 use Rattle.regions.proofs.ends.Tie as tie
-use Rattle.regions.proofs.ends.Reads as reads
-use Rattle.regions.proofs.ends.Lts as lts
-use Rattle.spans.proofs.all_zero.Reads as all-zero-reads
 
 returns : tie.Need-returns
 returns c = sym (ap (λ b. both b (allZero (drop (c .before .before .before .args .place .at) (now (c .before .before .before .args .s))))) (not-true (c .before .before .before .args .place .ok) (c .if1 .taken)))

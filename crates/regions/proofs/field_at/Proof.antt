@@ -1,15 +1,11 @@
 use denote.Ref.{now}
-use mathlib.Core.Path.{_≡_, refl, sym, ap, _∙_}
+use mathlib.Core.Path.{sym, ap, _∙_}
 use Rattle.regions.proofs.Fields as fields
 use Rattle.lent.proofs.Laws as lent
 use Rattle.regions.specs.Tests.{isField}
-use native.Mathlib.Omega.{arith}
 use borrow.Author.Needs.{needs}
 use Rattle.regions.proofs.field_at.Statement.{statement}
 use Rattle.regions.proofs.field_at.Tie as tie
-use Rattle.regions.proofs.field_at.Reads as reads
-use Rattle.regions.proofs.field_at.Lts as lts
-use Rattle.regions.proofs.field_in.Reads as field-in-reads
 
 add-end : tie.Need-add-end
 add-end c = search needs

@@ -1,14 +1,9 @@
 use denote.Ref.{now}
-use mathlib.Core.Path.{_≡_, refl, sym, ap, _∙_}
+use mathlib.Core.Path.{_∙_}
 use Rattle.regions.proofs.Fields as fields
-use native.Mathlib.Omega.{arith}
 use borrow.Author.Needs.{needs}
 use Rattle.regions.proofs.field_in.Statement.{statement}
 use Rattle.regions.proofs.field_in.Tie as tie
-use Rattle.regions.proofs.field_in.Reads as reads
-use Rattle.regions.proofs.field_in.Lts as lts
-use Rattle.regions.proofs.ends.Reads as ends-reads
-use Rattle.regions.proofs.value_end.Reads as value-end-reads
 
 value-end-requires : tie.Need-value-end-requires
 value-end-requires c κs = search needs

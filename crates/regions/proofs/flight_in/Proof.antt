@@ -1,14 +1,10 @@
 use denote.Ref.{now}
-use mathlib.Core.Path.{_≡_, refl, sym, ap, _∙_}
+use mathlib.Core.Path.{sym, _∙_}
 use borrow.Author.Tests.{not-true, not-false}
 use Rattle.regions.proofs.Slots as slots
-use native.Mathlib.Omega.{arith}
 use borrow.Author.Needs.{needs}
 use Rattle.regions.proofs.flight_in.Statement.{statement}
 use Rattle.regions.proofs.flight_in.Tie as tie
-use Rattle.regions.proofs.flight_in.Reads as reads
-use Rattle.regions.proofs.flight_in.Lts as lts
-use Rattle.regions.proofs.field_at.Reads as field-at-reads
 
 shared-slice-read-bytes : tie.Need-shared-slice-read-bytes
 shared-slice-read-bytes c = search needs

@@ -1,14 +1,8 @@
 use denote.Ref.{now}
-use mathlib.Core.Path.{_≡_, refl, sym, ap, _∙_}
 use Rattle.regions.proofs.Fields as fields
-use native.Mathlib.Omega.{arith}
 use borrow.Author.Needs.{needs}
 use Rattle.regions.proofs.purpose.Statement.{statement}
 use Rattle.regions.proofs.purpose.Tie as tie
-use Rattle.regions.proofs.purpose.Reads as reads
-use Rattle.regions.proofs.purpose.Lts as lts
-use Rattle.frame.proofs.Cursor.byte.Reads as byte-reads
-use Rattle.frame.proofs.Cursor.resource_id.Reads as resource-id-reads
 
 byte-requires : tie.Need-byte-requires
 byte-requires c κs = search needs

@@ -1,6 +1,5 @@
 use denote.Ref.{now}
-use mathlib.Core.Path.{_≡_, refl, sym, ap, _∙_}
-use borrow.Author.Tests.{not-true, not-false}
+use mathlib.Core.Path.{_≡_, sym, ap, _∙_}
 use Rattle.regions.proofs.Slots as slots
 use lib.ListN.{length}
 use Rattle.regions.specs.Tests.{isSlot, stride}
@@ -8,11 +7,6 @@ use native.Mathlib.Omega.{arith}
 use borrow.Author.Needs.{needs}
 use Rattle.regions.proofs.slot_in.Statement.{statement}
 use Rattle.regions.proofs.slot_in.Tie as tie
-use Rattle.regions.proofs.slot_in.Reads as reads
-use Rattle.regions.proofs.slot_in.Lts as lts
-use Rattle.regions.proofs.field_in.Reads as field-in-reads
-use Rattle.regions.proofs.flight_in.Reads as flight-in-reads
-use Rattle.regions.proofs.named_in.Reads as named-in-reads
 
 enum-told : tie.Need-enum-told
 enum-told c = search needs

@@ -1,5 +1,5 @@
 use denote.Ref.{now}
-use mathlib.Core.Path.{_≡_, refl, sym, ap, _∙_}
+use mathlib.Core.Path.{_≡_, refl, sym, _∙_}
 use borrow.Author.Tests.{not-true, not-false}
 use Rattle.regions.proofs.Slots as slots
 use Prim.Native.Nat.{_+_, _*_, _≤_}
@@ -11,9 +11,6 @@ use native.Mathlib.Omega.{arith}
 use borrow.Author.Needs.{needs}
 use Rattle.regions.proofs.slots_in.Statement.{statement}
 use Rattle.regions.proofs.slots_in.Tie as tie
-use Rattle.regions.proofs.slots_in.Reads as reads
-use Rattle.regions.proofs.slots_in.Lts as lts
-use Rattle.regions.proofs.slot_in.Reads as slot-in-reads
 
 abbrev Inv-loop : tie.InvT-loop
 Inv-loop region step kind left₀ at₀ left at = (at + left * step ≤ length region) × (everySlot (isSlot kind) (slotsOf step region) ≡ everySlot (isSlot kind) (chunks step left (drop at region)))

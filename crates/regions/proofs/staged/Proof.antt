@@ -1,14 +1,8 @@
 use denote.Ref.{now}
-use mathlib.Core.Path.{_≡_, refl, sym, ap, _∙_}
 use Rattle.regions.proofs.Fields as fields
-use native.Mathlib.Omega.{arith}
 use borrow.Author.Needs.{needs}
 use Rattle.regions.proofs.staged.Statement.{statement}
 use Rattle.regions.proofs.staged.Tie as tie
-use Rattle.regions.proofs.staged.Reads as reads
-use Rattle.regions.proofs.staged.Lts as lts
-use Rattle.frame.proofs.Cursor.byte.Reads as byte-reads
-use Rattle.frame.proofs.Cursor.event.Reads as event-reads
 
 byte-requires : tie.Need-byte-requires
 byte-requires c κs = search needs

@@ -1,17 +1,12 @@
 use denote.Ref.{now}
-use mathlib.Core.Path.{_≡_, refl, sym, ap, _∙_, subst}
-use borrow.Author.Tests.{not-true, not-false}
+use mathlib.Core.Path.{sym, subst}
 use Rattle.tables.proofs.Laws as tables
 use Rattle.regions.proofs.Slots as slots
 use Rattle.lent.proofs.Laws as lent
 use Rattle.regions.specs.Inside.{TableIn}
-use native.Mathlib.Omega.{arith}
 use borrow.Author.Needs.{needs}
 use Rattle.regions.proofs.table_at.Statement.{statement}
 use Rattle.regions.proofs.table_at.Tie as tie
-use Rattle.regions.proofs.table_at.Reads as reads
-use Rattle.regions.proofs.table_at.Lts as lts
-use Rattle.regions.proofs.table_in.Reads as table-in-reads
 
 add-end : tie.Need-add-end
 add-end c = search needs

@@ -1,18 +1,11 @@
 use denote.Ref.{now}
-use mathlib.Core.Path.{_≡_, refl, sym, ap, _∙_}
+use mathlib.Core.Path.{sym, _∙_}
 use borrow.Author.Tests.{not-true, not-false}
 use Rattle.tables.proofs.Laws as tables
 use Rattle.regions.proofs.Slots as slots
-use native.Mathlib.Omega.{arith}
 use borrow.Author.Needs.{needs}
 use Rattle.regions.proofs.table_in.Statement.{statement}
 use Rattle.regions.proofs.table_in.Tie as tie
-use Rattle.regions.proofs.table_in.Reads as reads
-use Rattle.regions.proofs.table_in.Lts as lts
-use Rattle.regions.proofs.key_width_of.Reads as key-width-of-reads
-use Rattle.regions.proofs.slots_in.Reads as slots-in-reads
-use Rattle.regions.proofs.stride_of.Reads as stride-of-reads
-use Rattle.tables.proofs.is_table.Reads as is-table-reads
 
 stride-of-requires : tie.Need-stride-of-requires
 stride-of-requires c κs = search needs

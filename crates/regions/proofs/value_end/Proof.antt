@@ -1,22 +1,10 @@
 use denote.Ref.{now}
-use mathlib.Core.Path.{_≡_, refl, sym, ap, _∙_}
+use mathlib.Core.Path.{sym, ap, _∙_}
 use Rattle.regions.proofs.Fields as fields
 use Rattle.regions.specs.Tests.{skipsValue}
-use native.Mathlib.Omega.{arith}
 use borrow.Author.Needs.{needs}
 use Rattle.regions.proofs.value_end.Statement.{statement}
 use Rattle.regions.proofs.value_end.Tie as tie
-use Rattle.regions.proofs.value_end.Reads as reads
-use Rattle.regions.proofs.value_end.Lts as lts
-use Rattle.frame.proofs.Cursor.below.Reads as below-reads
-use Rattle.frame.proofs.Cursor.expiry.Reads as expiry-reads
-use Rattle.frame.proofs.Cursor.number.Reads as number-reads
-use Rattle.frame.proofs.Cursor.option_short_text.Reads as option-short-text-reads
-use Rattle.frame.proofs.Cursor.resource_id.Reads as resource-id-reads
-use Rattle.frame.proofs.event_in.Reads as event-in-reads
-use Rattle.regions.proofs.list_from.Reads as list-from-reads
-use Rattle.regions.proofs.purpose.Reads as purpose-reads
-use Rattle.regions.proofs.staged.Reads as staged-reads
 
 enum-told : tie.Need-enum-told
 enum-told c = search needs

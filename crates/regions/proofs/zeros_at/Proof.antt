@@ -1,15 +1,11 @@
 use denote.Ref.{now}
-use mathlib.Core.Path.{_≡_, refl, sym, ap, _∙_}
+use mathlib.Core.Path.{sym, ap, _∙_}
 use Rattle.regions.proofs.Fields as fields
 use Rattle.lent.proofs.Laws as lent
 use Rattle.spans.specs.Bytes.{allZero}
-use native.Mathlib.Omega.{arith}
 use borrow.Author.Needs.{needs}
 use Rattle.regions.proofs.zeros_at.Statement.{statement}
 use Rattle.regions.proofs.zeros_at.Tie as tie
-use Rattle.regions.proofs.zeros_at.Reads as reads
-use Rattle.regions.proofs.zeros_at.Lts as lts
-use Rattle.spans.proofs.all_zero.Reads as all-zero-reads
 
 add-end : tie.Need-add-end
 add-end c = search needs
