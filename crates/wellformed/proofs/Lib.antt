@@ -4,3 +4,4 @@ pub mod Orders
 pub mod EntryLaws
 pub mod Loops
 pub mod Flights
+pub mod States

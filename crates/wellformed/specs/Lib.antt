@@ -2,3 +2,4 @@ pub mod Across
 pub mod Fields
 pub mod Entries
 pub mod Tests
+pub mod IsState

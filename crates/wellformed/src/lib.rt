@@ -11,7 +11,13 @@ ghost use Rattle.format.specs.Format.{option, list, stamp, bool};
 ghost use Rattle.model.specs.Formats.{resourceId, shortText, operationF, roleF, conflictsF, refusalsF};
 ghost use Rattle.tables.specs.Table.{Holds, slotsOf, text};
 ghost use Rattle.frame.specs.Read.{skips};
+ghost use Rattle.lent.specs.Lent.{part};
+ghost use Rattle.model.specs.State.{SyncState};
+ghost use Rattle.state.specs.Contract.{state-length, Keeps, HasState};
 ghost use Rattle.regions.specs.Tests.{everySlot};
+ghost use Rattle.regions.specs.Inside.{EditsIn};
+ghost use Rattle.wellformed.specs.Across.{Across};
+ghost use Rattle.wellformed.specs.IsState.{IsState};
 ghost use Rattle.wellformed.specs.Tests.{isBelow, isEdit, isQueued, isFor, one, countSlots, isAsked, agree};
 ghost use Rattle.wellformed.specs.Fields.{wide, filled};
 ghost use Rattle.wellformed.specs.Entries.{entryF, entriesF, notGreater, ordered, QueuesIn};
@@ -419,4 +425,64 @@ fn agree(flights: &[u8], entries: &[u8], n: u64) -> bool
         return false;
     }
     all_queued(flights, entries)
+}
+
+// ---- the whole buffer
+
+const STATE: usize = 58543;
+
+const WAITING: usize = 20002;
+
+const IN_FLIGHT: usize = 55643;
+
+const FLIGHTS: usize = 1033;
+
+fn entries_at(state: &[u8], at: usize, len: usize) -> bool
+    requires { ⌜ (at + len ≤ length (now state)) × (len ≡ 35641) ⌝ }
+    ensures { λ r. ⌜ (r ≡ true → QueuesIn (part at len (now (state .entry)))) × (QueuesIn (part at len (now (state .entry))) → r ≡ true) ⌝ }
+{
+    let end = at + len;
+    entries_in(&state[at..end])
+}
+
+fn waiting_in(state: &[u8]) -> bool
+    requires { ⌜ length (now state) ≡ state-length ⌝ }
+    ensures { λ r. ⌜ (r ≡ true → EditsIn (now (state .entry))) × (EditsIn (now (state .entry)) → r ≡ true) ⌝ }
+{
+    entries_at(state, WAITING, ENTRIES)
+}
+
+fn agree_at(state: &[u8], flights: usize, entries: usize, n: u64) -> bool
+    requires { ⌜ (flights + 1033 ≤ length (now state)) × Holds 43 (part flights 1033 (now state)) ⌝ }
+    requires { ⌜ (entries + 35641 ≤ length (now state)) × Holds 5940 (part entries 35641 (now state)) ⌝ }
+    ensures { λ r. ⌜ r ≡ agree n (slotsOf 43 (part flights 1033 (now (state .entry)))) (slotsOf 5940 (part entries 35641 (now (state .entry)))) ⌝ }
+{
+    let flights_end = flights + FLIGHTS;
+    let entries_end = entries + ENTRIES;
+    agree(&state[flights..flights_end], &state[entries..entries_end], n)
+}
+
+// Whether the state keeps the rules across its tables.
+fn across(state: &[u8]) -> bool
+    requires { ⌜ HasState (now state) ⌝ }
+    ensures { λ r. ⌜ ((s : SyncState) → Keeps s (now (state .entry)) → (r ≡ true → Across s) × (Across s → r ≡ true)) ⌝ }
+{
+    let n = state::next_request(state);
+    agree_at(state, IN_FLIGHT, WAITING, n)
+}
+
+// Whether the buffer holds a well-formed state.
+pub fn is_state(state: &[u8]) -> bool
+    ensures { λ r. ⌜ (r ≡ true → IsState (now (state .entry))) × (IsState (now (state .entry)) → r ≡ true) ⌝ }
+{
+    if state.len() != STATE {
+        return false;
+    }
+    if !regions::others_in(state) {
+        return false;
+    }
+    if !waiting_in(state) {
+        return false;
+    }
+    across(state)
 }
