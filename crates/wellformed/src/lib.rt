@@ -359,7 +359,7 @@ fn is_for(flights: &[u8], at: usize, key: &[u8]) -> bool
     }
 }
 
-fn bit(b: bool) -> usize
+pub fn bit(b: bool) -> usize
     ensures { λ r. ⌜ r ≡ one b ⌝ }
 {
     if b {

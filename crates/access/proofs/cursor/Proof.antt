@@ -1,0 +1,23 @@
+use native.Mathlib.Omega.{arith}
+use borrow.Author.Needs.{needs}
+use Rattle.access.proofs.cursor.Statement.{statement}
+use Rattle.access.proofs.cursor.Tie as tie
+use Rattle.access.proofs.cursor.Reads as reads
+use Rattle.access.proofs.cursor.Lts as lts
+use Rattle.access.proofs.cursor_text.Reads as cursor-text-reads
+use Rattle.access.proofs.refusal.Reads as refusal-reads
+
+refusal-requires : tie.Need-refusal-requires
+refusal-requires c κs = search needs
+
+returns : tie.Need-returns
+returns c = ?
+
+cursor-text-requires : tie.Need-cursor-text-requires
+cursor-text-requires c κs = ?
+
+returns-2 : tie.Need-returns-2
+returns-2 c = ?
+
+pub cursor-spec : {M : Type 1} → statement M
+cursor-spec = tie.close (tie.spec refusal-requires returns cursor-text-requires returns-2)

@@ -1,0 +1,22 @@
+use native.Mathlib.Omega.{arith}
+use borrow.Author.Needs.{needs}
+use Rattle.access.proofs.cursor_text.Statement.{statement}
+use Rattle.access.proofs.cursor_text.Tie as tie
+use Rattle.access.proofs.cursor_text.Reads as reads
+use Rattle.access.proofs.cursor_text.Lts as lts
+use Rattle.access.proofs.byte_at.Reads as byte-at-reads
+
+byte-at-requires : tie.Need-byte-at-requires
+byte-at-requires c κs = search needs
+
+returns : tie.Need-returns
+returns c = ?
+
+byte-at-requires-2 : tie.Need-byte-at-requires-2
+byte-at-requires-2 c κs = search needs
+
+returns-2 : tie.Need-returns-2
+returns-2 c = ?
+
+pub cursor-text-spec : {M : Type 1} → statement M
+cursor-text-spec = tie.close (tie.spec byte-at-requires returns byte-at-requires-2 returns-2)

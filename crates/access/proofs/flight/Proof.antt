@@ -1,0 +1,30 @@
+use native.Mathlib.Omega.{arith}
+use borrow.Author.Needs.{needs}
+use Rattle.access.proofs.flight.Statement.{statement}
+use Rattle.access.proofs.flight.Tie as tie
+use Rattle.access.proofs.flight.Reads as reads
+use Rattle.access.proofs.flight.Lts as lts
+use Rattle.numbers.proofs.get_be.Reads as get-be-reads
+use Rattle.state.proofs.in_flight_count.Reads as in-flight-count-reads
+
+in-flight-count-requires : tie.Need-in-flight-count-requires
+in-flight-count-requires c κs = search needs
+
+returns : tie.Need-returns
+returns c = ?
+
+mul-past : tie.Need-mul-past
+mul-past c = ?
+
+add-at : tie.Need-add-at
+add-at c = ?
+
+get-be-requires : tie.Need-get-be-requires
+get-be-requires c κs = ?
+
+returns-2 : tie.Need-returns-2
+returns-2 c = ?
+
+pub flight-spec : {M : Type 1} → statement M
+flight-spec =
+    tie.close (tie.spec in-flight-count-requires returns mul-past add-at get-be-requires returns-2)

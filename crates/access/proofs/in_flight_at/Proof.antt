@@ -1,0 +1,34 @@
+use native.Mathlib.Omega.{arith}
+use borrow.Author.Needs.{needs}
+use Rattle.access.proofs.in_flight_at.Statement.{statement}
+use Rattle.access.proofs.in_flight_at.Tie as tie
+use Rattle.access.proofs.in_flight_at.Reads as reads
+use Rattle.access.proofs.in_flight_at.Lts as lts
+use Rattle.access.proofs.flight.Reads as flight-reads
+use Rattle.access.proofs.refusal.Reads as refusal-reads
+
+refusal-requires : tie.Need-refusal-requires
+refusal-requires c κs = search needs
+
+returns : tie.Need-returns
+returns c = ?
+
+flight-requires : tie.Need-flight-requires
+flight-requires c κs = ?
+
+enum-told : tie.Need-enum-told
+enum-told c = search needs
+
+returns-2 : tie.Need-returns-2
+returns-2 c = ?
+
+enum-known-p : tie.Need-enum-known-p
+enum-known-p c = search needs
+
+returns-3 : tie.Need-returns-3
+returns-3 c = ?
+
+pub in-flight-at-spec : {M : Type 1} → statement M
+in-flight-at-spec =
+    tie.close
+    (tie.spec refusal-requires returns flight-requires enum-told returns-2 enum-known-p returns-3)
