@@ -39,7 +39,7 @@ use Rattle.wellformed.specs.Tests.{isBelow, isEdit, keyIn, isFound, isQu
 
 -- ---- a waiting entry's slot
 
-slot-text : (r : ResourceId) (p : Pending) → text (pending-slot document01 r p) ≡ r
+pub slot-text : (r : ResourceId) (p : Pending) → text (pending-slot document01 r p) ≡ r
 unfolding pending-slot
 slot-text r p = text-name r _
 
@@ -116,7 +116,7 @@ found-is key ((r, p ∷ q) ∷ m) a at = go (by-name (text key) r) refl (found-i
     go Ordering·gt e f = rw (slot-text r p, name-order r (text key), e) (past key r q (edit-slots document01 m) _ (at + 5940) (name-order r (text key) ∙ ap flipped e) f)
 
 -- the same text, by the tables' order
-same-order : (q r : Text) → isEqual (order q r) ≡ same-text q r
+pub same-order : (q r : Text) → isEqual (order q r) ≡ same-text q r
 unfolding same-text
 same-order q r = ap isEqual (name-order q r) ∙ go (by-name r q) refl
   where

@@ -75,7 +75,7 @@ module _ {s : SyncState} {w : List ℕ} (K : Keeps s w) where
   flights-are : slotsOf 43 (part 55643 1033 w) ≡ map flight-slot (s .in-flight)
   flights-are = ap (slotsOf 43) (parts.in-flight-part s w K) ∙ tables.slots-enc 43 1033 (map flight-slot (s .in-flight)) flights-sized
 
-  entries-are : slotsOf 5940 (part 20002 35641 w) ≡ edit-slots document01 (s .edits)
+  pub entries-are : slotsOf 5940 (part 20002 35641 w) ≡ edit-slots document01 (s .edits)
   entries-are = ap (slotsOf 5940) (parts.edits-part s w K) ∙ tables.slots-enc 5940 35641 (edit-slots document01 (s .edits)) entries-sized
 
   pub flights-hold : (55643 + 1033 ≤ length w) × Holds 43 (part 55643 1033 w)
