@@ -368,3 +368,10 @@ record-read w n i size extent R h p q = record {
       ∙ ap (λ (x : List ℕ). take (length (eventF .enc (f .1))) (drop 33 x)) b ∙ ap (take (length (eventF .enc (f .1)))) (event-in f (N .2)) ∙ event-bytes f (N .2) in
       ap₂ (λ (x y : List ℕ). some (x, y)) name event ∙ sym (ap record-bytes (nth-getD d i (s .records) k));
 }
+
+pub event-at : (w : List ℕ) (at : ℕ) (c : Cursor) → c ≡ skips eventF (take (at + 882 - at) (drop at w)) start → c .at ≡ skips eventF (part at 882 w) start .at
+event-at w at c e = ap (λ (x : Cursor). x .at) e ∙ ap (λ (x : List ℕ). skips eventF x start .at) (tables.part-is w 882 at)
+
+-- an answer by another name
+pub reads-as : {A : Type 0} {f : SyncState → A} {a b : A} (w : List ℕ) → Reads f w a → a ≡ b → Reads f w b
+reads-as {f = f} w R e = subst (λ x. Reads f w x) e R

@@ -1,3 +1,5 @@
+use denote.Ref.{now}
+use Rattle.access.proofs.Laws.{event-at}
 use native.Mathlib.Omega.{arith}
 use borrow.Author.Needs.{needs}
 use Rattle.access.proofs.event_end.Statement.{statement}
@@ -22,7 +24,7 @@ event-in-requires : tie.Need-event-in-requires
 event-in-requires c κs = search needs
 
 returns : tie.Need-returns
-returns c = ?
+returns c = event-at (now (c .before .before .before .args .state)) (c .before .before .before .args .at) _ (c .event-in .ensures)
 
 pub event-end-spec : {M : Type 1} → statement M
 event-end-spec =

@@ -1,3 +1,5 @@
+use denote.Ref.{now}
+use Rattle.access.proofs.Laws.{fresh-short, fresh-made}
 use native.Mathlib.Omega.{arith}
 use borrow.Author.Needs.{needs}
 use Rattle.access.proofs.fresh.Statement.{statement}
@@ -7,7 +9,7 @@ use Rattle.access.proofs.fresh.Lts as lts
 use Rattle.spans.proofs.zero.Reads as zero-reads
 
 returns : tie.Need-returns
-returns c = ?
+returns c = fresh-short (now (c .before .before .args .state)) (c .if1 .taken)
 
 zero-requires : tie.Need-zero-requires
 zero-requires c κs = search needs
@@ -16,7 +18,7 @@ same-length : tie.Need-same-length
 same-length c = search needs
 
 returns-2 : tie.Need-returns-2
-returns-2 c = ?
+returns-2 c = fresh-made (now (c .before .before .before .before .before .before .args .state)) _ (search needs) (c .before .before .zero .ensures)
 
 pub fresh-spec : {M : Type 1} → statement M
 fresh-spec = tie.close (tie.spec returns zero-requires same-length returns-2)

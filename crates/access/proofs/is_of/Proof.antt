@@ -1,3 +1,5 @@
+use denote.Ref.{now}
+use Rattle.access.proofs.Laws.{of-is}
 use native.Mathlib.Omega.{arith}
 use borrow.Author.Needs.{needs}
 use Rattle.access.proofs.is_of.Statement.{statement}
@@ -29,19 +31,19 @@ enum-told : tie.Need-enum-told
 enum-told c = search needs
 
 returns : tie.Need-returns
-returns c = ?
+returns c = of-is (now (c .before .before .before .before .before .before .before .args .slot)) (now (c .before .before .before .before .before .before .before .args .resource)) (c .before .before .before .before .text-len .result) _ _ (c .before .before .before .before .text-len .ensures .1) (c .before .before .compare .ensures) (c .enum-told .given .1)
 
 enum-told-2 : tie.Need-enum-told-2
 enum-told-2 c = search needs
 
 returns-2 : tie.Need-returns-2
-returns-2 c = ?
+returns-2 c = of-is (now (c .before .before .before .before .before .before .before .args .slot)) (now (c .before .before .before .before .before .before .before .args .resource)) (c .before .before .before .before .text-len .result) _ _ (c .before .before .before .before .text-len .ensures .1) (c .before .before .compare .ensures) (c .enum-told2 .given .1)
 
 enum-told-3 : tie.Need-enum-told-3
 enum-told-3 c = search needs
 
 returns-3 : tie.Need-returns-3
-returns-3 c = ?
+returns-3 c = of-is (now (c .before .before .before .before .before .before .before .args .slot)) (now (c .before .before .before .before .before .before .before .args .resource)) (c .before .before .before .before .text-len .result) _ _ (c .before .before .before .before .text-len .ensures .1) (c .before .before .compare .ensures) (c .enum-told3 .given .1)
 
 pub is-of-spec : {M : Type 1} → statement M
 is-of-spec =

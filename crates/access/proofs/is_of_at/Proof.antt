@@ -1,3 +1,5 @@
+use denote.Ref.{now}
+use Rattle.access.proofs.Laws.{of-at}
 use native.Mathlib.Omega.{arith}
 use borrow.Author.Needs.{needs}
 use Rattle.access.proofs.is_of_at.Statement.{statement}
@@ -22,7 +24,7 @@ is-of-requires : tie.Need-is-of-requires
 is-of-requires c κs = search needs
 
 returns : tie.Need-returns
-returns c = ?
+returns c = of-at (now (c .before .before .before .before .args .entries)) (now (c .before .before .before .before .args .resource)) (c .before .before .before .before .args .at) _ (c .is-of .ensures)
 
 pub is-of-at-spec : {M : Type 1} → statement M
 is-of-at-spec =

@@ -1,3 +1,5 @@
+use denote.Ref.{now}
+use Rattle.access.proofs.Laws.{checked-short, checked-yes, checked-no}
 use native.Mathlib.Omega.{arith}
 use borrow.Author.Needs.{needs}
 use Rattle.access.proofs.refusal.Statement.{statement}
@@ -7,16 +9,16 @@ use Rattle.access.proofs.refusal.Lts as lts
 use Rattle.wellformed.proofs.is_state.Reads as is-state-reads
 
 returns : tie.Need-returns
-returns c = ?
+returns c = checked-short (now (c .before .before .args .state)) (c .if1 .taken)
 
 is-state-requires : tie.Need-is-state-requires
 is-state-requires c κs = search needs
 
 returns-2 : tie.Need-returns-2
-returns-2 c = ?
+returns-2 c = checked-yes (now (c .before .before .before .before .args .state)) _ (c .before .is-state .ensures .0) (c .if2 .taken)
 
 returns-3 : tie.Need-returns-3
-returns-3 c = ?
+returns-3 c = checked-no (now (c .before .before .before .before .args .state)) _ (search needs) (c .before .is-state .ensures .1) (c .if2 .left)
 
 pub refusal-spec : {M : Type 1} → statement M
 refusal-spec = tie.close (tie.spec returns is-state-requires returns-2 returns-3)
