@@ -47,7 +47,7 @@ use Rattle.wellformed.specs.IsState.{IsState}
 use Rattle.wellformed.specs.Tests.{one, countSlots}
 use Rattle.wellformed.proofs.States.{keeps-of, state-of, entries-are, entries-hold}
 use Rattle.wellformed.proofs.Flights.{same-order, slot-text}
-use Rattle.access.specs.Answers.{Checked, Answers, Freshened, nth, record-bytes, isOf}
+use Rattle.access.specs.Answers.{Checked, Answers, Freshened, nth, numbered, record-bytes, isOf}
 
 -- ---- the code
 
@@ -372,6 +372,6 @@ record-read w n i size extent R h p q = record {
 pub event-at : (w : List ℕ) (at : ℕ) (c : Cursor) → c ≡ skips eventF (take (at + 882 - at) (drop at w)) start → c .at ≡ skips eventF (part at 882 w) start .at
 event-at w at c e = ap (λ (x : Cursor). x .at) e ∙ ap (λ (x : List ℕ). skips eventF x start .at) (tables.part-is w 882 at)
 
--- an answer by another name
-pub reads-as : {A : Type 0} {f : SyncState → A} {a b : A} (w : List ℕ) → Reads f w a → a ≡ b → Reads f w b
-reads-as {f = f} w R e = subst (λ x. Reads f w x) e R
+-- what a number stands for
+pub reads-number : {f : SyncState → Option ℕ} {a : Option ℕ} (b : Option ℕ) (w : List ℕ) → Reads f w a → a ≡ b → Reads (λ s. numbered (f s)) w (numbered b)
+reads-number b w R e = record { is = λ s K. ap numbered (sym e ∙ R .is s K) }

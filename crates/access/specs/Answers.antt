@@ -2,7 +2,7 @@
 -- well-formed state, else what is asked of the state. Assumes nothing.
 use Prim.Native.Nat.{ℕ, zero, suc}
 use mathlib.Core.Path.{_≡_}
-use mathlib.Core.Bool.{Bool}
+use mathlib.Core.Bool.{Bool, true, false}
 use mathlib.Core.List.{List, [], _∷_}
 use mathlib.Core.Option.{Option, none, some}
 use lib.ListN.{length}
@@ -40,6 +40,11 @@ unfoldable pub nth : {A : Type 0} → ℕ → List A → Option A
 nth i [] = none
 nth zero (x ∷ l) = some x
 nth (suc i) (x ∷ l) = nth i l
+
+-- whether there is a number, and the number or 0
+unfoldable pub numbered : Option ℕ → Bool × ℕ
+numbered none = (false, 0)
+numbered (some n) = (true, n)
 
 -- a record's resource, and its event's bytes in the frame's form
 unfoldable pub record-bytes : Option (ResourceId × ProviderEvent) → Option (List ℕ × List ℕ)

@@ -2,7 +2,9 @@
 use frame::Cursor;
 use spans::Order;
 use state::Numbered;
+use wellformed::STATE;
 ghost use mathlib.Core.Path.{_≡_};
+ghost use mathlib.Core.Bool.{false};
 ghost use mathlib.Core.Option.{none};
 ghost use Prim.Native.Nat.{_+_, _*_, _≤_, _<_};
 ghost use lib.ListN.{length, take, drop, getD};
@@ -15,9 +17,7 @@ ghost use Rattle.model.specs.Claims.{waiting-count};
 ghost use Rattle.state.specs.Contract.{HasState, Reads};
 ghost use Rattle.state.specs.Values.{number-in};
 ghost use Rattle.wellformed.specs.Tests.{countSlots};
-ghost use Rattle.access.specs.Answers.{Checked, Answers, Freshened, nth, record-bytes, isOf};
-
-const STATE: usize = 58543;
+ghost use Rattle.access.specs.Answers.{Checked, Answers, Freshened, nth, numbered, record-bytes, isOf};
 
 pub const REFUSED_LENGTH: u8 = 1;
 
@@ -158,7 +158,7 @@ fn flight(state: &[u8], i: usize) -> Numbered
 
 // The number in flight at a place in their order.
 pub fn in_flight_at(state: &[u8], i: usize) -> NumberAnswer
-    ensures { λ r. ⌜ Answers (λ s. nth i (keys (s .in-flight))) none (now (state .entry)) (r .code) (kept (r .found) (r .number)) ⌝ }
+    ensures { λ r. ⌜ Answers (λ s. numbered (nth i (keys (s .in-flight)))) (false, 0) (now (state .entry)) (r .code) (r .found, r .number) ⌝ }
 {
     let code = refusal(state);
     if code != 0 {
@@ -195,11 +195,16 @@ const CURSOR_LENGTH: usize = 9152;
 
 const CURSOR_TEXT: usize = 9153;
 
+// A part of the buffer.
+pub struct Part {
+    pub at: usize,
+    pub length: usize,
+}
+
 pub struct TextAnswer {
     pub code: u8,
     pub found: bool,
-    pub at: usize,
-    pub length: usize,
+    pub text: Part,
 }
 
 fn byte_at(state: &[u8], at: usize) -> usize
@@ -211,37 +216,37 @@ fn byte_at(state: &[u8], at: usize) -> usize
 
 fn cursor_text(state: &[u8]) -> TextAnswer
     requires { ⌜ HasState (now state) ⌝ }
-    ensures { λ r. ⌜ (r .code ≡ 0) × Reads (λ s. s .cursor) (now (state .entry)) (kept (r .found) (part (r .at) (r .length) (now (state .entry)))) ⌝ }
+    ensures { λ r. ⌜ (r .code ≡ 0) × Reads (λ s. s .cursor) (now (state .entry)) (kept (r .found) (part (r .text .at) (r .text .length) (now (state .entry)))) ⌝ }
 {
     let some = byte_at(state, CURSOR);
     if some == 0 {
         return TextAnswer {
             code: 0,
             found: false,
-            at: 0,
-            length: 0,
+            text: Part { at: 0, length: 0 },
         };
     }
     let length = byte_at(state, CURSOR_LENGTH);
     TextAnswer {
         code: 0,
         found: true,
-        at: CURSOR_TEXT,
-        length,
+        text: Part {
+            at: CURSOR_TEXT,
+            length,
+        },
     }
 }
 
 // The cursor's text, by its place in the buffer.
 pub fn cursor(state: &[u8]) -> TextAnswer
-    ensures { λ r. ⌜ Answers (λ s. s .cursor) none (now (state .entry)) (r .code) (kept (r .found) (part (r .at) (r .length) (now (state .entry)))) ⌝ }
+    ensures { λ r. ⌜ Answers (λ s. s .cursor) none (now (state .entry)) (r .code) (kept (r .found) (part (r .text .at) (r .text .length) (now (state .entry)))) ⌝ }
 {
     let code = refusal(state);
     if code != 0 {
         return TextAnswer {
             code,
             found: false,
-            at: 0,
-            length: 0,
+            text: Part { at: 0, length: 0 },
         };
     }
     cursor_text(state)
@@ -262,10 +267,8 @@ const EVENT: usize = 882;
 pub struct RecordAnswer {
     pub code: u8,
     pub found: bool,
-    pub name: usize,
-    pub size: usize,
-    pub event: usize,
-    pub extent: usize,
+    pub name: Part,
+    pub event: Part,
 }
 
 fn event_end(state: &[u8], at: usize) -> usize
@@ -279,17 +282,15 @@ fn event_end(state: &[u8], at: usize) -> usize
 
 fn record_bytes(state: &[u8], i: usize) -> RecordAnswer
     requires { ⌜ HasState (now state) ⌝ }
-    ensures { λ r. ⌜ (r .code ≡ 0) × Reads (λ s. record-bytes (nth i (s .records))) (now (state .entry)) (kept (r .found) (part (r .name) (r .size) (now (state .entry)), part (r .event) (r .extent) (now (state .entry)))) ⌝ }
+    ensures { λ r. ⌜ (r .code ≡ 0) × Reads (λ s. record-bytes (nth i (s .records))) (now (state .entry)) (kept (r .found) (part (r .name .at) (r .name .length) (now (state .entry)), part (r .event .at) (r .event .length) (now (state .entry)))) ⌝ }
 {
     let n = records::record_count(state);
     if n <= i {
         return RecordAnswer {
             code: 0,
             found: false,
-            name: 0,
-            size: 0,
-            event: 0,
-            extent: 0,
+            name: Part { at: 0, length: 0 },
+            event: Part { at: 0, length: 0 },
         };
     }
     let past = i * RECORD;
@@ -301,26 +302,28 @@ fn record_bytes(state: &[u8], i: usize) -> RecordAnswer
     RecordAnswer {
         code: 0,
         found: true,
-        name,
-        size,
-        event,
-        extent,
+        name: Part {
+            at: name,
+            length: size,
+        },
+        event: Part {
+            at: event,
+            length: extent,
+        },
     }
 }
 
 // The record at a place in their order: its resource, and its event in the frame's form, by their places in the buffer.
 pub fn record_at(state: &[u8], i: usize) -> RecordAnswer
-    ensures { λ r. ⌜ Answers (λ s. record-bytes (nth i (s .records))) none (now (state .entry)) (r .code) (kept (r .found) (part (r .name) (r .size) (now (state .entry)), part (r .event) (r .extent) (now (state .entry)))) ⌝ }
+    ensures { λ r. ⌜ Answers (λ s. record-bytes (nth i (s .records))) none (now (state .entry)) (r .code) (kept (r .found) (part (r .name .at) (r .name .length) (now (state .entry)), part (r .event .at) (r .event .length) (now (state .entry)))) ⌝ }
 {
     let code = refusal(state);
     if code != 0 {
         return RecordAnswer {
             code,
             found: false,
-            name: 0,
-            size: 0,
-            event: 0,
-            extent: 0,
+            name: Part { at: 0, length: 0 },
+            event: Part { at: 0, length: 0 },
         };
     }
     record_bytes(state, i)

@@ -82,9 +82,11 @@ module _ {s : SyncState} {w : List ℕ} (K : Keeps s w) where
   unfolding document01
   flights-hold =
       let l : length w ≡ 58543 = K .long in
-      let k : 55643 + 1033 ≤ length w = omega arith in
-      (k, count-holds 43 24 (part 55643 1033 w) (map flight-slot (s .in-flight)) (omega arith) (tables.part-length w 55643 1033 k) (parts.in-flight-part s w K)
-      (subst (λ (n : ℕ). n ≤ 24) (sym (length-rows flight-slot (s .in-flight))) (K .fits .in-flight .small)))
+      let k : 55643 + 1033 ≤ length w = omega arith in (
+        k,
+        count-holds 43 24 (part 55643 1033 w) (map flight-slot (s .in-flight)) (omega arith) (tables.part-length w 55643 1033 k) (parts.in-flight-part s w K)
+            (subst (λ (n : ℕ). n ≤ 24) (sym (length-rows flight-slot (s .in-flight))) (K .fits .in-flight .small)),
+      )
 
   pub entries-hold : (20002 + 35641 ≤ length w) × Holds 5940 (part 20002 35641 w)
   unfolding document01

@@ -429,7 +429,8 @@ fn agree(flights: &[u8], entries: &[u8], n: u64) -> bool
 
 // ---- the whole buffer
 
-const STATE: usize = 58543;
+// The bytes of a state.
+pub const STATE: usize = 58543;
 
 const WAITING: usize = 20002;
 
@@ -459,7 +460,11 @@ fn agree_at(state: &[u8], flights: usize, entries: usize, n: u64) -> bool
 {
     let flights_end = flights + FLIGHTS;
     let entries_end = entries + ENTRIES;
-    agree(&state[flights..flights_end], &state[entries..entries_end], n)
+    agree(
+        &state[flights..flights_end],
+        &state[entries..entries_end],
+        n,
+    )
 }
 
 // Whether the state keeps the rules across its tables.

@@ -1,6 +1,8 @@
 use denote.Ref.{now}
-use Rattle.access.proofs.Laws.{answers-no, answers-yes, has-of, reads-as}
-use mathlib.Core.Option.{none}
+use Rattle.access.proofs.Laws.{answers-no, answers-yes, has-of, reads-number}
+use mathlib.Core.Option.{none, some}
+use mathlib.Core.Bool.{false}
+use Rattle.access.specs.Answers.{numbered}
 use Rattle.state.specs.Values.{number-in}
 use mathlib.Core.Path.{_≡_, refl, sym, ap, _∙_}
 use native.Mathlib.Omega.{arith}
@@ -16,6 +18,7 @@ refusal-requires : tie.Need-refusal-requires
 refusal-requires c κs = search needs
 
 returns : tie.Need-returns
+unfolding numbered
 returns c = answers-no (c .before .refusal .ensures) _ _ (c .if1 .taken)
 
 flight-requires : tie.Need-flight-requires
@@ -25,13 +28,15 @@ enum-told : tie.Need-enum-told
 enum-told c = search needs
 
 returns-2 : tie.Need-returns-2
-returns-2 c = answers-yes (c .before .before .before .before .refusal .ensures) none (c .before .before .before .if1 .left) (reads-as (now (c .before .before .before .before .before .before .args .state)) (c .before .before .flight .ensures) (ap number-in (c .enum-told .given .1)))
+unfolding numbered
+returns-2 c = answers-yes (c .before .before .before .before .refusal .ensures) (false, 0) (c .before .before .before .if1 .left) (reads-number none (now (c .before .before .before .before .before .before .args .state)) (c .before .before .flight .ensures) (ap number-in (c .enum-told .given .1)))
 
 enum-known-p : tie.Need-enum-known-p
 enum-known-p c = search needs
 
 returns-3 : tie.Need-returns-3
-returns-3 c = answers-yes (c .before .before .before .before .before .refusal .ensures) none (c .before .before .before .before .if1 .left) (reads-as (now (c .before .before .before .before .before .before .before .args .state)) (c .before .before .before .flight .ensures) (ap number-in (c .before .p .given .1)))
+unfolding numbered
+returns-3 c = answers-yes (c .before .before .before .before .before .refusal .ensures) (false, 0) (c .before .before .before .before .if1 .left) (reads-number (some (c .before .p .given .0 .0)) (now (c .before .before .before .before .before .before .before .args .state)) (c .before .before .before .flight .ensures) (ap number-in (c .before .p .given .1)))
 
 pub in-flight-at-spec : {M : Type 1} → statement M
 in-flight-at-spec =
