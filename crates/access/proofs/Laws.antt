@@ -1,40 +1,39 @@
 -- What the functions of this crate cite: each law's premises are what the callees ensure. Assumes nothing.
-use Prim.Native.Nat.{ℕ, zero, suc, _+_, _-_, _*_, _^_, _≤_, _<_, Ordering, Ordering·lt, Ordering·eq, Ordering·gt}
-use native.Mathlib.Nat.{not-suc-le-zero, le-of-suc-le-suc, mul-le-mul-right}
+use Prim.Native.Nat.{ℕ, zero, suc, _+_, _-_, _*_, _≤_, _<_, Ordering, Ordering·lt, Ordering·eq, Ordering·gt}
+use native.Mathlib.Nat.{not-suc-le-zero, le-of-suc-le-suc}
 use native.Mathlib.Omega.{arith}
 use mathlib.Core.Path.{_≡_, refl, sym, ap, ap₂, _∙_, subst}
-use mathlib.Core.List.{List, [], _∷_, _++_, append-assoc, append-nil}
+use mathlib.Core.List.{List, [], _∷_, _++_}
 use mathlib.Core.Option.{Option, none, some, Option·none-ne-some}
 use mathlib.Core.Bool.{Bool, true, false}
-use lib.ListN.{length, take, drop, getD, length-append}
+use lib.ListN.{length, take, drop, getD}
 use lib.Seq.{take-at, drop-at, take-all, getD-take, getD-drop}
 use lib.Dec.{T, isEq}
-use Rattle.format.specs.Format.{Format, All, option, via, enum, _∣_, nothing, text as text-format, number, bigEndian}
+use Rattle.format.specs.Format.{option, via, enum, _∣_, nothing, text as text-format, number, bigEndian}
 use Rattle.spans.specs.Bytes.{zeros}
 use Rattle.spans.specs.Compare.{order}
 use Rattle.spans.specs.declared.Order.{Order}
 use Rattle.numbers.specs.Big.{fromBe}
-use Rattle.tables.specs.Table.{Table, Holds, slotsOf, text, isEqual}
+use Rattle.tables.specs.Table.{Table, slotsOf, text, isEqual}
 use Rattle.tables.proofs.Laws as tables
 use Rattle.lent.specs.Lent.{part}
-use Rattle.frame.specs.Read.{start, skips, kept}
+use Rattle.frame.specs.Read.{start, skips}
 use Rattle.frame.specs.declared.Cursor.{Cursor}
 use Rattle.frame.proofs.Spans.{skips-written}
 use Rattle.model.specs.Event.{Text, ProviderEvent}
 use Rattle.model.specs.Seam.{RequestId, ResourceId}
-use Rattle.model.specs.State.{Map, Pending, Queue, Purpose, SyncState, new}
+use Rattle.model.specs.State.{Map, Queue, Purpose, SyncState}
 use Rattle.model.specs.Limits.{document01, max-id, max-text}
 use Rattle.model.specs.Maps.{by, by-name, same-text, map, get, keys}
 use Rattle.model.specs.Machine.{match_none:_some:_}
-use Rattle.model.specs.Formats.{resourceId, shortText, u64, eventF}
+use Rattle.model.specs.Formats.{resourceId, shortText, eventF}
 use Rattle.model.specs.SavedForm.{purposeF}
 use Rattle.model.specs.Claims.{waiting-count}
 use Rattle.model.specs.WellFormed.{rising}
-use Rattle.model.proofs.Tables.{turned, by-name-turned, by-name-self, name-order, get-below, get-first, rising-tail, lt≢eq, gt≢eq}
+use Rattle.model.proofs.Tables.{turned, by-name-turned, name-order, get-below, get-first, rising-tail}
 use Rattle.model.proofs.FormatsLaws.{eventF-law}
-use Rattle.state.specs.Layout.{padded, field, name-slot, number-key, flight-slot, record-slot, pending-slot, edit-slots, layout}
-use Rattle.state.specs.Fits.{QueueFits}
-use Rattle.state.specs.Contract.{state-length, Keeps, HasState, Reads}
+use Rattle.state.specs.Layout.{padded, field, name-slot, number-key, record-slot, pending-slot, edit-slots}
+use Rattle.state.specs.Contract.{state-length, HasState, Reads}
 use Rattle.state.proofs.Widths.{length-digits, event-within}
 use Rattle.state.proofs.Padded.{length-name, length-field, text-name}
 use Rattle.state.proofs.Orders.{from-digits}
@@ -45,7 +44,7 @@ use Rattle.state.proofs.Ops as ops
 use Rattle.records.proofs.Laws.{record-column}
 use Rattle.wellformed.specs.IsState.{IsState}
 use Rattle.wellformed.specs.Tests.{one, countSlots}
-use Rattle.wellformed.proofs.States.{keeps-of, state-of, entries-are, entries-hold}
+use Rattle.wellformed.proofs.States.{keeps-of, entries-are}
 use Rattle.wellformed.proofs.Flights.{same-order, slot-text}
 use Rattle.access.specs.Answers.{Checked, Answers, Freshened, nth, numbered, record-bytes, isOf}
 

@@ -1,12 +1,11 @@
 // What a state says of itself, for any lent bytes: no function here asks anything of them.
-use frame::Cursor;
 use spans::Order;
 use state::Numbered;
 use wellformed::STATE;
 ghost use mathlib.Core.Path.{_≡_};
 ghost use mathlib.Core.Bool.{false};
 ghost use mathlib.Core.Option.{none};
-ghost use Prim.Native.Nat.{_+_, _*_, _≤_, _<_};
+ghost use Prim.Native.Nat.{_+_, _≤_, _<_};
 ghost use lib.ListN.{length, take, drop, getD};
 ghost use Rattle.tables.specs.Table.{Holds, slotsOf};
 ghost use Rattle.lent.specs.Lent.{part};

@@ -1,24 +1,20 @@
 -- The region of the waiting entries: its slots are entries that fit, and the runs of one resource are the queues. Assumes nothing.
-use Prim.Native.Nat.{ℕ, zero, suc, _+_, _-_, _*_, _≤_, _<_, Ordering, Ordering·lt, Ordering·eq, Ordering·gt}
+use Prim.Native.Nat.{ℕ, suc, _+_, _-_, _*_, _≤_, Ordering, Ordering·lt, Ordering·eq, Ordering·gt}
 use native.Mathlib.Nat.{mul-le-mul-right}
 use native.Mathlib.Omega.{arith}
 use mathlib.Core.Path.{_≡_, refl, sym, ap, ap₂, _∙_, subst}
-use mathlib.Core.List.{List, [], _∷_, _++_, append-assoc, append-nil}
-use mathlib.Core.Option.{Option, none, some}
-use mathlib.Core.Bool.{Bool, true, false, not, _&&_}
-use lib.ListN.{length, take, drop, getD, length-append, length-replicate}
-use lib.Seq.{take-at, drop-at}
+use mathlib.Core.List.{List, [], _∷_, _++_, append-nil}
+use mathlib.Core.Option.{some}
+use mathlib.Core.Bool.{Bool, true, false, not}
+use lib.ListN.{length, getD, length-append}
 use lib.Dec.{T, isEq}
-use borrow.Author.Tests.{not-true, not-false}
-use Rattle.format.specs.Format.{Got, Format, Lawful, All, _⊗_, via, option, list, stamp, bool, concatMap}
+use Rattle.format.specs.Format.{Format, Lawful, All, _⊗_, option, list, stamp, bool, concatMap}
 use Rattle.format.proofs.FormatLaws.{pair-law, option-law, stamp-law, bool-law, list-law}
 use Rattle.spans.specs.Bytes.{zeros, both}
 use Rattle.spans.specs.Compare.{order}
-use Rattle.spans.specs.declared.Order.{Order}
-use Rattle.spans.specs.declared.Order.the-variants.{Less, Equal, Greater}
+use Rattle.spans.specs.declared.Order.the-variants.{Greater}
 use Rattle.tables.specs.Table.{Table, flat, Sized, encTable, slotsOf, Holds, text}
 use Rattle.tables.proofs.Laws as tables
-use Rattle.model.specs.Event.{Text}
 use Rattle.model.specs.Seam.{ResourceId}
 use Rattle.model.specs.State.{Map, Pending, Queue}
 use Rattle.model.specs.Limits.{document01}
@@ -26,15 +22,15 @@ use Rattle.model.specs.Maps.{if_then_else_, by, by-name, same-text, map, keys}
 use Rattle.model.specs.Formats.{resourceId, shortText, operationF, roleF, conflictsF, refusalsF}
 use Rattle.model.specs.WellFormed.{rising}
 use Rattle.model.proofs.FormatsLaws.{resourceId-law, shortText-law, operationF-law, roleF-law, conflictsF-law, refusalsF-law}
-use Rattle.model.proofs.Tables.{turned, by-name-self, by-name-turned, by-name-same, is-lt, and-left, and-right, and-both, same-is}
-use Rattle.state.specs.Layout.{padded, field, pending-slot, pending-width, absorbed-width, edit-slots, region}
-use Rattle.state.specs.Fits.{PendingFits, QueueFits, EditsFit}
+use Rattle.model.proofs.Tables.{turned, by-name-self, by-name-turned, is-lt, and-left, and-right, and-both, same-is}
+use Rattle.state.specs.Layout.{padded, field, pending-slot, edit-slots, region}
+use Rattle.state.specs.Fits.{PendingFits, QueueFits}
 use Rattle.state.proofs.Widths.{Within, pair-within, list-within, name-within, text-33, operation-within, role-within, time-within, bool-within, absorbed-within}
 use Rattle.state.proofs.Padded.{length-padded, text-name}
 use Rattle.state.proofs.Orders.{flipped, name-order}
 use Rattle.state.proofs.Rows.{length-rows, sized-rows}
 use Rattle.state.proofs.Regions.{bool-ok, pending-long, Entries, entries-of, entries, put-first, queues, entry-slot, EntryFits, edit-rows, entries-fit}
-use Rattle.frame.specs.Read.{start, stopped, stepped, gotAt, skips}
+use Rattle.frame.specs.Read.{start, skips}
 use Rattle.frame.specs.declared.Cursor.{Cursor}
 use Rattle.frame.proofs.Steps.{skips-pair, got-some}
 use Rattle.frame.proofs.Spans.{skips-written}

@@ -1,18 +1,18 @@
 -- Values in their widths are read back, and where reading one ends. Assumes nothing.
-use Prim.Native.Nat.{ℕ, zero, suc, _+_, _-_, _≤_, _<_}
+use Prim.Native.Nat.{ℕ, _+_, _-_, _≤_, _<_}
 use native.Mathlib.Omega.{arith}
 use mathlib.Core.Path.{_≡_, refl, sym, ap, _∙_, subst}
-use mathlib.Core.List.{List, [], _∷_, _++_, append-assoc}
-use mathlib.Core.Option.{Option, none, some, Option·none-ne-some, Option·some-injective}
+use mathlib.Core.List.{List, _++_, append-assoc}
+use mathlib.Core.Option.{none, some, Option·none-ne-some, Option·some-injective}
 use mathlib.Core.Bool.{Bool, true, false, cond, not, _&&_}
-use lib.ListN.{length, take, drop, length-append, length-drop, length-take, length-replicate, take-append-drop, drop-of-length-le}
+use lib.ListN.{length, take, drop, length-append, length-drop, length-replicate, take-append-drop}
 use lib.Seq.{take-at, drop-at, length-take-le}
 use lib.Dec.{leb}
 use borrow.Author.Tests.{le-leb, lt-leb, leb-true, not-true, not-false}
 use Rattle.format.specs.Format.{Got, Format, Lawful, andThen}
 use Rattle.spans.specs.Bytes.{zeros, allZero}
 use Rattle.tables.proofs.Laws.{allZero-is, zeros-allZero, false-true}
-use Rattle.frame.specs.Read.{stopped, start, stepped, gotAt, skips}
+use Rattle.frame.specs.Read.{stopped, stepped, gotAt, skips}
 use Rattle.frame.specs.declared.Cursor.{Cursor}
 use Rattle.frame.proofs.Steps.{rest-at}
 use Rattle.state.specs.Layout.{padded, field}

@@ -1,15 +1,15 @@
 -- A state is well-formed exactly where it fits its regions and keeps the rules across its tables. Assumes nothing.
 use Prim.Native.Nat.{ℕ, _+_, _≤_, _<_}
 use native.Mathlib.Omega.{arith}
-use mathlib.Core.Path.{_≡_, refl, sym, ap, ap₂, _∙_, subst}
-use mathlib.Core.List.{List, [], _∷_, _++_}
+use mathlib.Core.Path.{_≡_, refl, sym, ap₂, _∙_, subst}
+use mathlib.Core.List.{List, [], _∷_}
 use mathlib.Core.Option.{Option, none, some}
-use mathlib.Core.Bool.{Bool, true, false, not, _&&_}
+use mathlib.Core.Bool.{Bool, true, false, not}
 use lib.ListN.{length, length-append}
-use lib.Dec.{T, leb, le→leb, leb→le}
+use lib.Dec.{T, leb, le→leb}
 use Rattle.format.specs.Format.{All, option, via, _⊗_, enum, _∣_, nothing, list, number, bool, below}
-use Rattle.model.specs.Seam.{ResourceId, ListFrom}
-use Rattle.model.specs.State.{Map, Pass, Pending, Queue, SyncState}
+use Rattle.model.specs.Seam.{ResourceId}
+use Rattle.model.specs.State.{Map, Pass, Queue, SyncState}
 use Rattle.model.specs.Limits.{Limits, max-conflict-bytes, max-refused-bytes}
 use Rattle.model.specs.Maps.{by-name, same-text, map, is-empty, keys, values}
 use Rattle.model.specs.Formats.{resourceId, conflictsF, refusalsF, editF, listFromF}
@@ -22,7 +22,7 @@ use Rattle.model.proofs.OneInFlight.{every-at}
 use Rattle.model.proofs.Fits as model
 use Rattle.model.proofs.StaysWellFormed.{start-fit}
 use Rattle.state.specs.Layout.{edit-slots, pass-of, no-pass}
-use Rattle.state.specs.Fits.{Held, Names, PassFits, PendingFits, QueueFits, EditsFit, Fits}
+use Rattle.state.specs.Fits.{PassFits, PendingFits, QueueFits, Fits}
 use Rattle.state.proofs.Rows.{length-rows}
 use Rattle.wellformed.specs.Across.{Across}
 

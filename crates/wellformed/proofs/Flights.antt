@@ -1,24 +1,19 @@
 -- What the tests of slots across tables say of a state: its numbers in flight, and the requests for its queues. Assumes nothing.
-use Prim.Native.Nat.{ℕ, zero, suc, _+_, _-_, _*_, _^_, _≤_, _<_, Ordering, Ordering·lt, Ordering·eq, Ordering·gt}
-use native.Mathlib.Nat.{mul-le-mul-right}
+use Prim.Native.Nat.{ℕ, suc, _+_, _-_, Ordering, Ordering·lt, Ordering·eq, Ordering·gt}
 use native.Mathlib.Omega.{arith}
-use mathlib.Core.Path.{_≡_, refl, sym, ap, ap₂, _∙_, subst}
+use mathlib.Core.Path.{_≡_, refl, sym, ap, ap₂, _∙_}
 use mathlib.Core.List.{List, [], _∷_, _++_}
-use mathlib.Core.Option.{Option, none, some}
+use mathlib.Core.Option.{none, some}
 use mathlib.Core.Bool.{Bool, true, false, not, _&&_, _||_}
-use lib.ListN.{length, take, drop, getD, length-append}
+use lib.ListN.{length, take, drop, getD}
 use lib.Seq.{take-at, drop-at, take-all, drop-drop, getD-append-add}
-use lib.Dec.{T, ltb, eqb, isEq}
-use Rattle.format.specs.Format.{Format, All, via, enum, _∣_, nothing, text as text-format, number, bigEndian}
+use lib.Dec.{ltb, eqb, isEq}
+use Rattle.format.specs.Format.{All, via, enum, _∣_, nothing, text as text-format, number, bigEndian}
 use Rattle.spans.specs.Bytes.{zeros, both}
 use Rattle.spans.specs.Compare.{order}
-use Rattle.spans.specs.declared.Order.{Order}
-use Rattle.spans.specs.declared.Order.the-variants.{Less, Equal, Greater}
+use Rattle.spans.specs.declared.Order.the-variants.{Less}
 use Rattle.numbers.specs.Big.{fromBe}
-use Rattle.tables.specs.Table.{Table, Sized, encTable, slotsOf, Holds, text, place, atPlace, either, isEqual}
-use Rattle.tables.specs.declared.Place.{Place}
-use Rattle.tables.specs.declared.Place.the-variants.{Found, Missing}
-use Rattle.tables.proofs.Laws as tables
+use Rattle.tables.specs.Table.{Table, text, place, atPlace, isEqual}
 use Rattle.model.specs.Event.{Text}
 use Rattle.model.specs.Seam.{RequestId, ResourceId}
 use Rattle.model.specs.State.{Map, Pending, Queue, Purpose, SyncState}
@@ -28,14 +23,14 @@ use Rattle.model.specs.Formats.{resourceId, u64}
 use Rattle.model.specs.SavedForm.{purposeF}
 use Rattle.model.specs.Sync.{edit-reads, edit-writes}
 use Rattle.model.specs.WellFormed.{all, count, for-edit, edit-requests, has-queue}
-use Rattle.model.proofs.Tables.{turned, by-name-turned}
+use Rattle.model.proofs.Tables.{by-name-turned}
 use Rattle.state.specs.Layout.{padded, field, name-slot, number-key, flight-slot, pending-slot, edit-slots}
 use Rattle.state.specs.Fits.{QueueFits}
 use Rattle.state.proofs.Widths.{length-digits}
 use Rattle.state.proofs.Padded.{length-name, text-name, text-name-only, length-number}
 use Rattle.state.proofs.Orders.{flipped, name-order, from-digits}
 use Rattle.regions.specs.Tests.{everySlot}
-use Rattle.wellformed.specs.Tests.{isBelow, isEdit, keyIn, isFound, isQueued, isFor, one, countSlots, isAsked, agree}
+use Rattle.wellformed.specs.Tests.{isBelow, isEdit, keyIn, isFound, isQueued, isFor, one, countSlots, isAsked}
 
 -- ---- a waiting entry's slot
 

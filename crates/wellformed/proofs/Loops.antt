@@ -1,19 +1,19 @@
 -- The tests across tables, slot by slot. Assumes nothing.
-use Prim.Native.Nat.{ℕ, zero, suc, _+_, _-_, _*_, _≤_, _<_}
+use Prim.Native.Nat.{ℕ, zero, suc, _+_, _-_, _≤_, _<_}
 use native.Mathlib.Nat.{not-suc-le-zero}
 use native.Mathlib.Omega.{arith}
 use mathlib.Core.Path.{_≡_, refl, sym, ap, _∙_}
-use mathlib.Core.List.{List, [], _∷_}
-use mathlib.Core.Bool.{Bool, true, false, not}
-use lib.ListN.{length, take, drop, getD}
+use mathlib.Core.List.{List}
+use mathlib.Core.Bool.{Bool, true, false}
+use lib.ListN.{take, drop, getD}
 use lib.Seq.{getD-take, getD-drop}
 use lib.Dec.{ltb, eqb}
-use borrow.Author.Tests.{eq-eqb, ne-eqb}
+use borrow.Author.Tests.{ne-eqb}
 use Rattle.spans.specs.Bytes.{both}
 use Rattle.spans.specs.Compare.{order}
 use Rattle.spans.specs.declared.Order.{Order}
 use Rattle.numbers.specs.Big.{fromBe}
-use Rattle.tables.specs.Table.{Table, chunks, slotsOf, text, place, either, isEqual}
+use Rattle.tables.specs.Table.{Table, chunks, slotsOf, text, place, isEqual}
 use Rattle.tables.specs.declared.Place.{Place}
 use Rattle.tables.proofs.Laws as tables
 use Rattle.regions.specs.Tests.{everySlot}

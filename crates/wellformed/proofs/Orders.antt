@@ -1,11 +1,11 @@
 -- Keys in order, some of them equal: the loop over a region's slots. Assumes nothing.
-use Prim.Native.Nat.{ℕ, zero, suc, _+_, _-_, _*_, _≤_, _<_}
+use Prim.Native.Nat.{ℕ, zero, suc, _+_, _-_, _≤_, _<_}
 use native.Mathlib.Nat.{not-suc-le-zero, le-of-suc-le-suc}
 use native.Mathlib.Omega.{arith}
 use mathlib.Core.Path.{_≡_, refl, sym, ap, _∙_}
-use mathlib.Core.List.{List, [], _∷_}
-use mathlib.Core.Bool.{Bool, true, false}
-use lib.ListN.{length, take, drop}
+use mathlib.Core.List.{List}
+use mathlib.Core.Bool.{Bool, true}
+use lib.ListN.{take, drop}
 use Rattle.spans.specs.Bytes.{both}
 use Rattle.spans.specs.Compare.{order}
 use Rattle.spans.specs.declared.Order.{Order}

@@ -3,11 +3,10 @@ use Prim.Native.Nat.{ℕ, _+_, _-_, _*_, _≤_, _<_}
 use native.Mathlib.Nat.{mul-le-mul-right}
 use native.Mathlib.Omega.{arith}
 use mathlib.Core.Path.{_≡_, refl, sym, ap, ap₂, _∙_, subst}
-use mathlib.Core.List.{List, [], _∷_}
+use mathlib.Core.List.{List}
 use mathlib.Core.Bool.{Bool, true, false}
 use lib.ListN.{length, take, drop, getD}
 use lib.Dec.{T, ltb, eqb}
-use Rattle.format.specs.Format.{All}
 use Rattle.spans.specs.Bytes.{both}
 use Rattle.tables.specs.Table.{Table, Sized, encTable, slotsOf, Holds}
 use Rattle.tables.proofs.Laws as tables
@@ -17,16 +16,15 @@ use Rattle.model.specs.Limits.{document01}
 use Rattle.model.specs.Maps.{map, keys, values}
 use Rattle.model.specs.WellFormed.{all, edit-requests, has-queue}
 use Rattle.state.specs.Layout.{flight-slot, edit-slots}
-use Rattle.state.specs.Contract.{state-length, Keeps, HasState, Reads}
+use Rattle.state.specs.Contract.{Keeps, HasState, Reads}
 use Rattle.state.proofs.Rows.{length-rows, sized-rows}
 use Rattle.state.proofs.Regions.{flight-long, edits-sized}
 use Rattle.state.proofs.Parts as parts
-use Rattle.regions.specs.Tests.{everySlot}
 use Rattle.regions.specs.Inside.{EditsIn, OthersIn}
 use Rattle.regions.proofs.Whole as whole
 use Rattle.wellformed.specs.Across.{Across}
 use Rattle.wellformed.specs.Entries.{QueuesIn}
-use Rattle.wellformed.specs.Tests.{isBelow, isQueued, isAsked, agree}
+use Rattle.wellformed.specs.Tests.{agree}
 use Rattle.wellformed.specs.IsState.{IsState}
 use Rattle.wellformed.proofs.Fitted.{fits-of, across-of, well-of}
 use Rattle.wellformed.proofs.Flights.{FlightFits, all-below, all-queued, all-asked}

@@ -10,7 +10,6 @@ use Rattle.spans.specs.Compare.{order}
 use Rattle.spans.specs.declared.Order.{Order}
 use Rattle.spans.specs.declared.Order.the-variants.{Less, Equal, Greater}
 use Rattle.tables.specs.Table.{Table, text}
-use Rattle.model.specs.Event.{Text}
 use Rattle.model.specs.Seam.{ResourceId}
 use Rattle.model.specs.Parts.{Role, Conflict, Refused}
 use Rattle.model.specs.Edits.{EditId, Timestamp, Operation}

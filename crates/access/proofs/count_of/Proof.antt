@@ -4,17 +4,13 @@ use Rattle.tables.proofs.Laws as tables
 use Rattle.tables.specs.Table.{chunks, slotsOf}
 use Rattle.wellformed.specs.Tests.{countSlots}
 use Rattle.access.specs.Answers.{isOf}
-use mathlib.Core.Path.{_≡_, refl, sym, ap, _∙_}
+use mathlib.Core.Path.{_≡_, sym, _∙_}
 use Prim.Native.Nat.{_+_, _-_, _*_, _≤_}
 use lib.ListN.{length, drop}
 use native.Mathlib.Omega.{arith}
 use borrow.Author.Needs.{needs}
 use Rattle.access.proofs.count_of.Statement.{statement}
 use Rattle.access.proofs.count_of.Tie as tie
-use Rattle.access.proofs.count_of.Reads as reads
-use Rattle.access.proofs.count_of.Lts as lts
-use Rattle.access.proofs.is_of_at.Reads as is-of-at-reads
-use Rattle.wellformed.proofs.bit.Reads as bit-reads
 
 abbrev Inv-loop : tie.InvT-loop
 Inv-loop entries resource left₀ at₀ n₀ left at n = (at + left * 5940 ≤ length entries) × (n ≤ at) × (countSlots (isOf resource) (slotsOf 5940 entries) ≡ n + countSlots (isOf resource) (chunks 5940 left (drop at entries)))

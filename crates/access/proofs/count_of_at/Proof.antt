@@ -1,13 +1,9 @@
 use denote.Ref.{now}
 use Rattle.access.proofs.Laws.{count-at}
 use Rattle.wellformed.proofs.States.{holds-part}
-use native.Mathlib.Omega.{arith}
 use borrow.Author.Needs.{needs}
 use Rattle.access.proofs.count_of_at.Statement.{statement}
 use Rattle.access.proofs.count_of_at.Tie as tie
-use Rattle.access.proofs.count_of_at.Reads as reads
-use Rattle.access.proofs.count_of_at.Lts as lts
-use Rattle.access.proofs.count_of.Reads as count-of-reads
 
 add-end : tie.Need-add-end
 add-end c = search needs

@@ -1,14 +1,8 @@
-use denote.Ref.{now}
 use Rattle.access.proofs.Laws.{answers-no, answers-zero, has-of}
 use mathlib.Core.Option.{none}
-use native.Mathlib.Omega.{arith}
 use borrow.Author.Needs.{needs}
 use Rattle.access.proofs.cursor.Statement.{statement}
 use Rattle.access.proofs.cursor.Tie as tie
-use Rattle.access.proofs.cursor.Reads as reads
-use Rattle.access.proofs.cursor.Lts as lts
-use Rattle.access.proofs.cursor_text.Reads as cursor-text-reads
-use Rattle.access.proofs.refusal.Reads as refusal-reads
 
 refusal-requires : tie.Need-refusal-requires
 refusal-requires c κs = search needs

@@ -1,13 +1,9 @@
 use denote.Ref.{now}
 use Rattle.access.proofs.Laws.{cursor-none, cursor-some}
-use mathlib.Core.Path.{_≡_, refl, sym, ap, _∙_}
-use native.Mathlib.Omega.{arith}
+use mathlib.Core.Path.{refl, sym, _∙_}
 use borrow.Author.Needs.{needs}
 use Rattle.access.proofs.cursor_text.Statement.{statement}
 use Rattle.access.proofs.cursor_text.Tie as tie
-use Rattle.access.proofs.cursor_text.Reads as reads
-use Rattle.access.proofs.cursor_text.Lts as lts
-use Rattle.access.proofs.byte_at.Reads as byte-at-reads
 
 byte-at-requires : tie.Need-byte-at-requires
 byte-at-requires c κs = search needs

@@ -1,12 +1,8 @@
 use denote.Ref.{now}
 use Rattle.access.proofs.Laws.{event-at}
-use native.Mathlib.Omega.{arith}
 use borrow.Author.Needs.{needs}
 use Rattle.access.proofs.event_end.Statement.{statement}
 use Rattle.access.proofs.event_end.Tie as tie
-use Rattle.access.proofs.event_end.Reads as reads
-use Rattle.access.proofs.event_end.Lts as lts
-use Rattle.frame.proofs.event_in.Reads as event-in-reads
 
 add-end : tie.Need-add-end
 add-end c = search needs

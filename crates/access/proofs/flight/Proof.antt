@@ -4,10 +4,6 @@ use native.Mathlib.Omega.{arith}
 use borrow.Author.Needs.{needs}
 use Rattle.access.proofs.flight.Statement.{statement}
 use Rattle.access.proofs.flight.Tie as tie
-use Rattle.access.proofs.flight.Reads as reads
-use Rattle.access.proofs.flight.Lts as lts
-use Rattle.numbers.proofs.get_be.Reads as get-be-reads
-use Rattle.state.proofs.in_flight_count.Reads as in-flight-count-reads
 
 in-flight-count-requires : tie.Need-in-flight-count-requires
 in-flight-count-requires c κs = search needs

@@ -1,12 +1,8 @@
 use denote.Ref.{now}
 use Rattle.access.proofs.Laws.{fresh-short, fresh-made}
-use native.Mathlib.Omega.{arith}
 use borrow.Author.Needs.{needs}
 use Rattle.access.proofs.fresh.Statement.{statement}
 use Rattle.access.proofs.fresh.Tie as tie
-use Rattle.access.proofs.fresh.Reads as reads
-use Rattle.access.proofs.fresh.Lts as lts
-use Rattle.spans.proofs.zero.Reads as zero-reads
 
 returns : tie.Need-returns
 returns c = fresh-short (now (c .before .before .args .state)) (c .if1 .taken)

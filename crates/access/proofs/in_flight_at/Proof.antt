@@ -4,15 +4,10 @@ use mathlib.Core.Option.{none, some}
 use mathlib.Core.Bool.{false}
 use Rattle.access.specs.Answers.{numbered}
 use Rattle.state.specs.Values.{number-in}
-use mathlib.Core.Path.{_≡_, refl, sym, ap, _∙_}
-use native.Mathlib.Omega.{arith}
+use mathlib.Core.Path.{ap}
 use borrow.Author.Needs.{needs}
 use Rattle.access.proofs.in_flight_at.Statement.{statement}
 use Rattle.access.proofs.in_flight_at.Tie as tie
-use Rattle.access.proofs.in_flight_at.Reads as reads
-use Rattle.access.proofs.in_flight_at.Lts as lts
-use Rattle.access.proofs.flight.Reads as flight-reads
-use Rattle.access.proofs.refusal.Reads as refusal-reads
 
 refusal-requires : tie.Need-refusal-requires
 refusal-requires c κs = search needs

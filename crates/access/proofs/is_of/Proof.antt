@@ -1,13 +1,8 @@
 use denote.Ref.{now}
 use Rattle.access.proofs.Laws.{of-is}
-use native.Mathlib.Omega.{arith}
 use borrow.Author.Needs.{needs}
 use Rattle.access.proofs.is_of.Statement.{statement}
 use Rattle.access.proofs.is_of.Tie as tie
-use Rattle.access.proofs.is_of.Reads as reads
-use Rattle.access.proofs.is_of.Lts as lts
-use Rattle.spans.proofs.compare.Reads as compare-reads
-use Rattle.tables.proofs.text_len.Reads as text-len-reads
 
 text-len-requires : tie.Need-text-len-requires
 text-len-requires c κs = search needs

@@ -1,12 +1,8 @@
 use denote.Ref.{now}
 use Rattle.access.proofs.Laws.{of-at}
-use native.Mathlib.Omega.{arith}
 use borrow.Author.Needs.{needs}
 use Rattle.access.proofs.is_of_at.Statement.{statement}
 use Rattle.access.proofs.is_of_at.Tie as tie
-use Rattle.access.proofs.is_of_at.Reads as reads
-use Rattle.access.proofs.is_of_at.Lts as lts
-use Rattle.access.proofs.is_of.Reads as is-of-reads
 
 add-end : tie.Need-add-end
 add-end c = search needs

@@ -1,14 +1,8 @@
-use denote.Ref.{now}
 use Rattle.access.proofs.Laws.{answers-no, answers-zero, has-of}
 use mathlib.Core.Option.{none}
-use native.Mathlib.Omega.{arith}
 use borrow.Author.Needs.{needs}
 use Rattle.access.proofs.record_at.Statement.{statement}
 use Rattle.access.proofs.record_at.Tie as tie
-use Rattle.access.proofs.record_at.Reads as reads
-use Rattle.access.proofs.record_at.Lts as lts
-use Rattle.access.proofs.record_bytes.Reads as record-bytes-reads
-use Rattle.access.proofs.refusal.Reads as refusal-reads
 
 refusal-requires : tie.Need-refusal-requires
 refusal-requires c κs = search needs

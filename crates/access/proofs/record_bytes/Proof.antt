@@ -1,15 +1,10 @@
 use denote.Ref.{now}
 use Rattle.access.proofs.Laws.{no-record, record-read, record-room}
-use mathlib.Core.Path.{_≡_, refl, sym, ap, _∙_}
+use mathlib.Core.Path.{refl}
 use native.Mathlib.Omega.{arith}
 use borrow.Author.Needs.{needs}
 use Rattle.access.proofs.record_bytes.Statement.{statement}
 use Rattle.access.proofs.record_bytes.Tie as tie
-use Rattle.access.proofs.record_bytes.Reads as reads
-use Rattle.access.proofs.record_bytes.Lts as lts
-use Rattle.access.proofs.byte_at.Reads as byte-at-reads
-use Rattle.access.proofs.event_end.Reads as event-end-reads
-use Rattle.records.proofs.record_count.Reads as record-count-reads
 
 record-count-requires : tie.Need-record-count-requires
 record-count-requires c κs = search needs

@@ -1,12 +1,8 @@
 use denote.Ref.{now}
 use Rattle.access.proofs.Laws.{checked-short, checked-yes, checked-no}
-use native.Mathlib.Omega.{arith}
 use borrow.Author.Needs.{needs}
 use Rattle.access.proofs.refusal.Statement.{statement}
 use Rattle.access.proofs.refusal.Tie as tie
-use Rattle.access.proofs.refusal.Reads as reads
-use Rattle.access.proofs.refusal.Lts as lts
-use Rattle.wellformed.proofs.is_state.Reads as is-state-reads
 
 returns : tie.Need-returns
 returns c = checked-short (now (c .before .before .args .state)) (c .if1 .taken)

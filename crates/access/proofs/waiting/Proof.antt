@@ -1,13 +1,8 @@
 use denote.Ref.{now}
 use Rattle.access.proofs.Laws.{waiting-is}
 use Rattle.wellformed.proofs.States.{entries-hold}
-use native.Mathlib.Omega.{arith}
-use borrow.Author.Needs.{needs}
 use Rattle.access.proofs.waiting.Statement.{statement}
 use Rattle.access.proofs.waiting.Tie as tie
-use Rattle.access.proofs.waiting.Reads as reads
-use Rattle.access.proofs.waiting.Lts as lts
-use Rattle.access.proofs.count_of_at.Reads as count-of-at-reads
 
 count-of-at-requires : tie.Need-count-of-at-requires
 count-of-at-requires c κs = entries-hold (c .before .before .pre .keeps)

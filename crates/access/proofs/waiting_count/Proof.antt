@@ -1,13 +1,7 @@
-use denote.Ref.{now}
 use Rattle.access.proofs.Laws.{answers-no, answers-yes, has-of}
-use native.Mathlib.Omega.{arith}
 use borrow.Author.Needs.{needs}
 use Rattle.access.proofs.waiting_count.Statement.{statement}
 use Rattle.access.proofs.waiting_count.Tie as tie
-use Rattle.access.proofs.waiting_count.Reads as reads
-use Rattle.access.proofs.waiting_count.Lts as lts
-use Rattle.access.proofs.refusal.Reads as refusal-reads
-use Rattle.access.proofs.waiting.Reads as waiting-reads
 
 refusal-requires : tie.Need-refusal-requires
 refusal-requires c κs = search needs

@@ -2,14 +2,9 @@ use denote.Ref.{now}
 use Rattle.wellformed.proofs.FieldLaws.{wide-by}
 use Rattle.format.proofs.FormatLaws.{list-law}
 use Rattle.model.proofs.FormatsLaws.{shortText-law}
-use native.Mathlib.Omega.{arith}
 use borrow.Author.Needs.{needs}
 use Rattle.wellformed.proofs.absorbed.Statement.{statement}
 use Rattle.wellformed.proofs.absorbed.Tie as tie
-use Rattle.wellformed.proofs.absorbed.Reads as reads
-use Rattle.wellformed.proofs.absorbed.Lts as lts
-use Rattle.wellformed.proofs.edit_ids.Reads as edit-ids-reads
-use Rattle.wellformed.proofs.filled.Reads as filled-reads
 
 edit-ids-requires : tie.Need-edit-ids-requires
 edit-ids-requires c κs = search needs

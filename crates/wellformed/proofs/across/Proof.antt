@@ -1,13 +1,8 @@
 use denote.Ref.{now}
 use Rattle.wellformed.proofs.States.{flights-hold, entries-hold, across-is}
-use native.Mathlib.Omega.{arith}
 use borrow.Author.Needs.{needs}
 use Rattle.wellformed.proofs.across.Statement.{statement}
 use Rattle.wellformed.proofs.across.Tie as tie
-use Rattle.wellformed.proofs.across.Reads as reads
-use Rattle.wellformed.proofs.across.Lts as lts
-use Rattle.state.proofs.next_request.Reads as next-request-reads
-use Rattle.wellformed.proofs.agree_at.Reads as agree-at-reads
 
 next-request-requires : tie.Need-next-request-requires
 next-request-requires c κs = search needs

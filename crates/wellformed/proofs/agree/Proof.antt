@@ -2,15 +2,9 @@ use denote.Ref.{now}
 use Rattle.wellformed.proofs.Loops.{agree-below, agree-asked, agree-is}
 use Rattle.tables.specs.Table.{slotsOf}
 use borrow.Author.Tests.{not-true, not-false}
-use native.Mathlib.Omega.{arith}
 use borrow.Author.Needs.{needs}
 use Rattle.wellformed.proofs.agree.Statement.{statement}
 use Rattle.wellformed.proofs.agree.Tie as tie
-use Rattle.wellformed.proofs.agree.Reads as reads
-use Rattle.wellformed.proofs.agree.Lts as lts
-use Rattle.wellformed.proofs.all_asked.Reads as all-asked-reads
-use Rattle.wellformed.proofs.all_queued.Reads as all-queued-reads
-use Rattle.wellformed.proofs.numbers_below.Reads as numbers-below-reads
 
 numbers-below-requires : tie.Need-numbers-below-requires
 numbers-below-requires c κs = search needs

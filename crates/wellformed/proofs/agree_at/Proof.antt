@@ -1,12 +1,8 @@
 use denote.Ref.{now}
 use Rattle.wellformed.proofs.States.{holds-part, agree-part}
-use native.Mathlib.Omega.{arith}
 use borrow.Author.Needs.{needs}
 use Rattle.wellformed.proofs.agree_at.Statement.{statement}
 use Rattle.wellformed.proofs.agree_at.Tie as tie
-use Rattle.wellformed.proofs.agree_at.Reads as reads
-use Rattle.wellformed.proofs.agree_at.Lts as lts
-use Rattle.wellformed.proofs.agree.Reads as agree-reads
 
 add-flights-end : tie.Need-add-flights-end
 add-flights-end c = search needs

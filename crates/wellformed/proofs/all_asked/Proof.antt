@@ -13,9 +13,6 @@ use native.Mathlib.Omega.{arith}
 use borrow.Author.Needs.{needs}
 use Rattle.wellformed.proofs.all_asked.Statement.{statement}
 use Rattle.wellformed.proofs.all_asked.Tie as tie
-use Rattle.wellformed.proofs.all_asked.Reads as reads
-use Rattle.wellformed.proofs.all_asked.Lts as lts
-use Rattle.wellformed.proofs.is_asked.Reads as is-asked-reads
 
 abbrev Inv-loop : tie.InvT-loop
 Inv-loop flights entries left₀ at₀ left at = (at + left * 5940 ≤ length entries) × (everySlot (isAsked (slotsOf 43 flights)) (slotsOf 5940 entries) ≡ everySlot (isAsked (slotsOf 43 flights)) (chunks 5940 left (drop at entries)))

@@ -13,9 +13,6 @@ use native.Mathlib.Omega.{arith}
 use borrow.Author.Needs.{needs}
 use Rattle.wellformed.proofs.all_queued.Statement.{statement}
 use Rattle.wellformed.proofs.all_queued.Tie as tie
-use Rattle.wellformed.proofs.all_queued.Reads as reads
-use Rattle.wellformed.proofs.all_queued.Lts as lts
-use Rattle.wellformed.proofs.is_queued.Reads as is-queued-reads
 
 abbrev Inv-loop : tie.InvT-loop
 Inv-loop flights entries left₀ at₀ left at = (at + left * 43 ≤ length flights) × (everySlot (isQueued (slotsOf 5940 entries)) (slotsOf 43 flights) ≡ everySlot (isQueued (slotsOf 5940 entries)) (chunks 43 left (drop at flights)))

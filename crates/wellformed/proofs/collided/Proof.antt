@@ -4,14 +4,9 @@ use Rattle.format.specs.Format.{bool, boolTo, boolFrom, below}
 use Rattle.format.proofs.FormatLaws.{bool-law}
 use Rattle.frame.proofs.Steps.{skips-via}
 use mathlib.Core.Path.{sym, _∙_}
-use native.Mathlib.Omega.{arith}
 use borrow.Author.Needs.{needs}
 use Rattle.wellformed.proofs.collided.Statement.{statement}
 use Rattle.wellformed.proofs.collided.Tie as tie
-use Rattle.wellformed.proofs.collided.Reads as reads
-use Rattle.wellformed.proofs.collided.Lts as lts
-use Rattle.frame.proofs.Cursor.below.Reads as below-reads
-use Rattle.wellformed.proofs.filled.Reads as filled-reads
 
 below-requires : tie.Need-below-requires
 below-requires c κs = search needs

@@ -1,14 +1,9 @@
 use denote.Ref.{now}
 use Rattle.wellformed.proofs.FieldLaws.{wide-by}
 use Rattle.model.proofs.FormatsLaws.{conflictsF-law}
-use native.Mathlib.Omega.{arith}
 use borrow.Author.Needs.{needs}
 use Rattle.wellformed.proofs.conflicts.Statement.{statement}
 use Rattle.wellformed.proofs.conflicts.Tie as tie
-use Rattle.wellformed.proofs.conflicts.Reads as reads
-use Rattle.wellformed.proofs.conflicts.Lts as lts
-use Rattle.effects.proofs.skip_conflicts.Reads as skip-conflicts-reads
-use Rattle.wellformed.proofs.filled.Reads as filled-reads
 
 skip-conflicts-requires : tie.Need-skip-conflicts-requires
 skip-conflicts-requires c κs = search needs

@@ -1,14 +1,9 @@
 use denote.Ref.{now}
 use Rattle.wellformed.proofs.FieldLaws.{wide-by}
 use Rattle.model.proofs.FormatsLaws.{shortText-law}
-use native.Mathlib.Omega.{arith}
 use borrow.Author.Needs.{needs}
 use Rattle.wellformed.proofs.edit_id.Statement.{statement}
 use Rattle.wellformed.proofs.edit_id.Tie as tie
-use Rattle.wellformed.proofs.edit_id.Reads as reads
-use Rattle.wellformed.proofs.edit_id.Lts as lts
-use Rattle.frame.proofs.Cursor.short_text.Reads as short-text-reads
-use Rattle.wellformed.proofs.filled.Reads as filled-reads
 
 short-text-requires : tie.Need-short-text-requires
 short-text-requires c κs = search needs

@@ -3,14 +3,9 @@ use Rattle.wellformed.proofs.FieldLaws.{wide-by}
 use Rattle.format.proofs.FormatLaws.{list-law}
 use Rattle.wellformed.proofs.EntryLaws.{entry-law}
 use Rattle.wellformed.specs.Entries.{entriesF}
-use native.Mathlib.Omega.{arith}
 use borrow.Author.Needs.{needs}
 use Rattle.wellformed.proofs.entries.Statement.{statement}
 use Rattle.wellformed.proofs.entries.Tie as tie
-use Rattle.wellformed.proofs.entries.Reads as reads
-use Rattle.wellformed.proofs.entries.Lts as lts
-use Rattle.wellformed.proofs.filled.Reads as filled-reads
-use Rattle.wellformed.proofs.slots.Reads as slots-reads
 
 slots-requires : tie.Need-slots-requires
 slots-requires c κs = search needs

@@ -1,12 +1,8 @@
 use denote.Ref.{now}
 use Rattle.wellformed.proofs.States.{queues-part}
-use native.Mathlib.Omega.{arith}
 use borrow.Author.Needs.{needs}
 use Rattle.wellformed.proofs.entries_at.Statement.{statement}
 use Rattle.wellformed.proofs.entries_at.Tie as tie
-use Rattle.wellformed.proofs.entries_at.Reads as reads
-use Rattle.wellformed.proofs.entries_at.Lts as lts
-use Rattle.wellformed.proofs.entries_in.Reads as entries-in-reads
 
 add-end : tie.Need-add-end
 add-end c = search needs

@@ -3,14 +3,9 @@ use Rattle.wellformed.proofs.EntryLaws.{slots-of, slots-read, slots-hol
 use Rattle.tables.proofs.Laws.{false-true}
 use borrow.Author.Tests.{not-true, not-false}
 use mathlib.Core.Path.{sym, _∙_}
-use native.Mathlib.Omega.{arith}
 use borrow.Author.Needs.{needs}
 use Rattle.wellformed.proofs.entries_in.Statement.{statement}
 use Rattle.wellformed.proofs.entries_in.Tie as tie
-use Rattle.wellformed.proofs.entries_in.Reads as reads
-use Rattle.wellformed.proofs.entries_in.Lts as lts
-use Rattle.wellformed.proofs.entries.Reads as entries-reads
-use Rattle.wellformed.proofs.keys_ordered.Reads as keys-ordered-reads
 
 entries-requires : tie.Need-entries-requires
 entries-requires c κs = search needs

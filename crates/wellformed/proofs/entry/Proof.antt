@@ -1,20 +1,8 @@
 use denote.Ref.{now}
 use Rattle.wellformed.proofs.EntryLaws.{entry-by}
-use native.Mathlib.Omega.{arith}
 use borrow.Author.Needs.{needs}
 use Rattle.wellformed.proofs.entry.Statement.{statement}
 use Rattle.wellformed.proofs.entry.Tie as tie
-use Rattle.wellformed.proofs.entry.Reads as reads
-use Rattle.wellformed.proofs.entry.Lts as lts
-use Rattle.wellformed.proofs.absorbed.Reads as absorbed-reads
-use Rattle.wellformed.proofs.collided.Reads as collided-reads
-use Rattle.wellformed.proofs.conflicts.Reads as conflicts-reads
-use Rattle.wellformed.proofs.edit_id.Reads as edit-id-reads
-use Rattle.wellformed.proofs.expiry.Reads as expiry-reads
-use Rattle.wellformed.proofs.operation.Reads as operation-reads
-use Rattle.wellformed.proofs.refused.Reads as refused-reads
-use Rattle.wellformed.proofs.resource.Reads as resource-reads
-use Rattle.wellformed.proofs.role.Reads as role-reads
 
 resource-requires : tie.Need-resource-requires
 resource-requires c κs = search needs

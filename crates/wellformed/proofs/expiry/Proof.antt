@@ -1,14 +1,9 @@
 use denote.Ref.{now}
 use Rattle.wellformed.proofs.FieldLaws.{wide-by}
 use Rattle.format.proofs.FormatLaws.{option-law, stamp-law}
-use native.Mathlib.Omega.{arith}
 use borrow.Author.Needs.{needs}
 use Rattle.wellformed.proofs.expiry.Statement.{statement}
 use Rattle.wellformed.proofs.expiry.Tie as tie
-use Rattle.wellformed.proofs.expiry.Reads as reads
-use Rattle.wellformed.proofs.expiry.Lts as lts
-use Rattle.frame.proofs.Cursor.expiry.Reads as expiry-reads
-use Rattle.wellformed.proofs.filled.Reads as filled-reads
 
 expiry-requires : tie.Need-expiry-requires
 expiry-requires c κs = search needs

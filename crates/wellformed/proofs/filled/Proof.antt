@@ -1,12 +1,8 @@
 use denote.Ref.{now}
 use Rattle.wellformed.proofs.FieldLaws.{filled-stopped, filled-short, filled-over, filled-other, filled-yes}
-use native.Mathlib.Omega.{arith}
 use borrow.Author.Needs.{needs}
 use Rattle.wellformed.proofs.filled.Statement.{statement}
 use Rattle.wellformed.proofs.filled.Tie as tie
-use Rattle.wellformed.proofs.filled.Reads as reads
-use Rattle.wellformed.proofs.filled.Lts as lts
-use Rattle.spans.proofs.all_zero.Reads as all-zero-reads
 
 returns : tie.Need-returns
 returns c = filled-stopped (c .before .before .before .args .width) (now (c .before .before .before .args .s)) (c .before .before .before .args .at) (c .before .before .before .args .next) (c .if1 .taken)

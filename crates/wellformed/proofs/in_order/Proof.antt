@@ -1,12 +1,8 @@
 use denote.Ref.{now}
 use Rattle.wellformed.proofs.Orders.{pair-is}
-use native.Mathlib.Omega.{arith}
 use borrow.Author.Needs.{needs}
 use Rattle.wellformed.proofs.in_order.Statement.{statement}
 use Rattle.wellformed.proofs.in_order.Tie as tie
-use Rattle.wellformed.proofs.in_order.Reads as reads
-use Rattle.wellformed.proofs.in_order.Lts as lts
-use Rattle.tables.proofs.key_order.Reads as key-order-reads
 
 add-mid : tie.Need-add-mid
 add-mid c = search needs

@@ -1,13 +1,9 @@
 use denote.Ref.{now}
 use Rattle.wellformed.proofs.Loops.{asked-is}
 use Rattle.tables.specs.Table.{slotsOf}
-use native.Mathlib.Omega.{arith}
 use borrow.Author.Needs.{needs}
 use Rattle.wellformed.proofs.is_asked.Statement.{statement}
 use Rattle.wellformed.proofs.is_asked.Tie as tie
-use Rattle.wellformed.proofs.is_asked.Reads as reads
-use Rattle.wellformed.proofs.is_asked.Lts as lts
-use Rattle.wellformed.proofs.requests.Reads as requests-reads
 
 add-to : tie.Need-add-to
 add-to c = search needs

@@ -1,11 +1,8 @@
 use denote.Ref.{now}
 use Rattle.wellformed.proofs.Loops.{edit-two, edit-is}
-use native.Mathlib.Omega.{arith}
 use borrow.Author.Needs.{needs}
 use Rattle.wellformed.proofs.is_edit.Statement.{statement}
 use Rattle.wellformed.proofs.is_edit.Tie as tie
-use Rattle.wellformed.proofs.is_edit.Reads as reads
-use Rattle.wellformed.proofs.is_edit.Lts as lts
 
 add-kind : tie.Need-add-kind
 add-kind c = search needs

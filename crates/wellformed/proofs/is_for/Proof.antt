@@ -1,14 +1,9 @@
 use denote.Ref.{now}
 use Rattle.wellformed.proofs.Loops.{for-other, for-is}
 use borrow.Author.Tests.{not-true, not-false}
-use native.Mathlib.Omega.{arith}
 use borrow.Author.Needs.{needs}
 use Rattle.wellformed.proofs.is_for.Statement.{statement}
 use Rattle.wellformed.proofs.is_for.Tie as tie
-use Rattle.wellformed.proofs.is_for.Reads as reads
-use Rattle.wellformed.proofs.is_for.Lts as lts
-use Rattle.tables.proofs.key_order.Reads as key-order-reads
-use Rattle.wellformed.proofs.is_edit.Reads as is-edit-reads
 
 is-edit-requires : tie.Need-is-edit-requires
 is-edit-requires c κs = search needs

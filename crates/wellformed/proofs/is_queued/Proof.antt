@@ -2,14 +2,9 @@ use denote.Ref.{now}
 use Rattle.wellformed.proofs.Loops.{queued-other, queued-is}
 use borrow.Author.Tests.{not-true, not-false}
 use Rattle.tables.specs.Table.{slotsOf}
-use native.Mathlib.Omega.{arith}
 use borrow.Author.Needs.{needs}
 use Rattle.wellformed.proofs.is_queued.Statement.{statement}
 use Rattle.wellformed.proofs.is_queued.Tie as tie
-use Rattle.wellformed.proofs.is_queued.Reads as reads
-use Rattle.wellformed.proofs.is_queued.Lts as lts
-use Rattle.tables.proofs.find.Reads as find-reads
-use Rattle.wellformed.proofs.is_edit.Reads as is-edit-reads
 
 is-edit-requires : tie.Need-is-edit-requires
 is-edit-requires c κs = search needs

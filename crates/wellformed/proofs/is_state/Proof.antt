@@ -5,15 +5,9 @@ use Rattle.tables.proofs.Laws.{false-true}
 use mathlib.Core.Path.{_≡_, sym, _∙_}
 use lib.ListN.{length}
 use Rattle.regions.proofs.Whole.{holds}
-use native.Mathlib.Omega.{arith}
 use borrow.Author.Needs.{needs}
 use Rattle.wellformed.proofs.is_state.Statement.{statement}
 use Rattle.wellformed.proofs.is_state.Tie as tie
-use Rattle.wellformed.proofs.is_state.Reads as reads
-use Rattle.wellformed.proofs.is_state.Lts as lts
-use Rattle.regions.proofs.others_in.Reads as others-in-reads
-use Rattle.wellformed.proofs.across.Reads as across-reads
-use Rattle.wellformed.proofs.waiting_in.Reads as waiting-in-reads
 
 returns : tie.Need-returns
 returns c = (λ e. absurd (false-true e), λ I. absurd (c .if1 .taken (keeps-of I .long)))

@@ -12,9 +12,6 @@ use native.Mathlib.Omega.{arith}
 use borrow.Author.Needs.{needs}
 use Rattle.wellformed.proofs.keys_ordered.Statement.{statement}
 use Rattle.wellformed.proofs.keys_ordered.Tie as tie
-use Rattle.wellformed.proofs.keys_ordered.Reads as reads
-use Rattle.wellformed.proofs.keys_ordered.Lts as lts
-use Rattle.wellformed.proofs.in_order.Reads as in-order-reads
 
 abbrev Inv-loop : tie.InvT-loop
 Inv-loop region stride left₀ at₀ left at = (at + left * stride ≤ length region) × (ordered (slotsOf stride region) ≡ ordered (chunks stride left (drop at region)))

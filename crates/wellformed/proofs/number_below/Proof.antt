@@ -1,12 +1,8 @@
 use denote.Ref.{now}
 use Rattle.wellformed.proofs.Loops.{below-is}
-use native.Mathlib.Omega.{arith}
 use borrow.Author.Needs.{needs}
 use Rattle.wellformed.proofs.number_below.Statement.{statement}
 use Rattle.wellformed.proofs.number_below.Tie as tie
-use Rattle.wellformed.proofs.number_below.Reads as reads
-use Rattle.wellformed.proofs.number_below.Lts as lts
-use Rattle.numbers.proofs.get_be.Reads as get-be-reads
 
 add-from : tie.Need-add-from
 add-from c = search needs

@@ -13,9 +13,6 @@ use native.Mathlib.Omega.{arith}
 use borrow.Author.Needs.{needs}
 use Rattle.wellformed.proofs.numbers_below.Statement.{statement}
 use Rattle.wellformed.proofs.numbers_below.Tie as tie
-use Rattle.wellformed.proofs.numbers_below.Reads as reads
-use Rattle.wellformed.proofs.numbers_below.Lts as lts
-use Rattle.wellformed.proofs.number_below.Reads as number-below-reads
 
 abbrev Inv-loop : tie.InvT-loop
 Inv-loop flights n left₀ at₀ left at = (at + left * 43 ≤ length flights) × (everySlot (isBelow n) (slotsOf 43 flights) ≡ everySlot (isBelow n) (chunks 43 left (drop at flights)))

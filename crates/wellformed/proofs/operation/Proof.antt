@@ -1,14 +1,9 @@
 use denote.Ref.{now}
 use Rattle.wellformed.proofs.FieldLaws.{wide-by}
 use Rattle.model.proofs.FormatsLaws.{operationF-law}
-use native.Mathlib.Omega.{arith}
 use borrow.Author.Needs.{needs}
 use Rattle.wellformed.proofs.operation.Statement.{statement}
 use Rattle.wellformed.proofs.operation.Tie as tie
-use Rattle.wellformed.proofs.operation.Reads as reads
-use Rattle.wellformed.proofs.operation.Lts as lts
-use Rattle.frame.proofs.Cursor.operation.Reads as operation-reads
-use Rattle.wellformed.proofs.filled.Reads as filled-reads
 
 operation-requires : tie.Need-operation-requires
 operation-requires c κs = search needs

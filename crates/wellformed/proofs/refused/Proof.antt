@@ -1,14 +1,9 @@
 use denote.Ref.{now}
 use Rattle.wellformed.proofs.FieldLaws.{wide-by}
 use Rattle.model.proofs.FormatsLaws.{refusalsF-law}
-use native.Mathlib.Omega.{arith}
 use borrow.Author.Needs.{needs}
 use Rattle.wellformed.proofs.refused.Statement.{statement}
 use Rattle.wellformed.proofs.refused.Tie as tie
-use Rattle.wellformed.proofs.refused.Reads as reads
-use Rattle.wellformed.proofs.refused.Lts as lts
-use Rattle.effects.proofs.skip_refusals.Reads as skip-refusals-reads
-use Rattle.wellformed.proofs.filled.Reads as filled-reads
 
 skip-refusals-requires : tie.Need-skip-refusals-requires
 skip-refusals-requires c κs = search needs

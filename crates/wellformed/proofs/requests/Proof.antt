@@ -3,17 +3,13 @@ use Rattle.wellformed.proofs.Loops.{one-le, count-start, count-more, co
 use Rattle.tables.proofs.Laws as tables
 use Rattle.tables.specs.Table.{chunks, slotsOf}
 use Rattle.wellformed.specs.Tests.{isFor, countSlots}
-use mathlib.Core.Path.{_≡_, refl, sym, _∙_}
+use mathlib.Core.Path.{_≡_, sym, _∙_}
 use Prim.Native.Nat.{_+_, _-_, _*_, _≤_}
 use lib.ListN.{length, drop}
 use native.Mathlib.Omega.{arith}
 use borrow.Author.Needs.{needs}
 use Rattle.wellformed.proofs.requests.Statement.{statement}
 use Rattle.wellformed.proofs.requests.Tie as tie
-use Rattle.wellformed.proofs.requests.Reads as reads
-use Rattle.wellformed.proofs.requests.Lts as lts
-use Rattle.wellformed.proofs.bit.Reads as bit-reads
-use Rattle.wellformed.proofs.is_for.Reads as is-for-reads
 
 abbrev Inv-loop : tie.InvT-loop
 Inv-loop flights key left₀ at₀ n₀ left at n = (at + left * 43 ≤ length flights) × (n ≤ at) × (countSlots (isFor key) (slotsOf 43 flights) ≡ n + countSlots (isFor key) (chunks 43 left (drop at flights)))

@@ -1,14 +1,9 @@
 use denote.Ref.{now}
 use Rattle.wellformed.proofs.FieldLaws.{wide-by}
 use Rattle.model.proofs.FormatsLaws.{resourceId-law}
-use native.Mathlib.Omega.{arith}
 use borrow.Author.Needs.{needs}
 use Rattle.wellformed.proofs.resource.Statement.{statement}
 use Rattle.wellformed.proofs.resource.Tie as tie
-use Rattle.wellformed.proofs.resource.Reads as reads
-use Rattle.wellformed.proofs.resource.Lts as lts
-use Rattle.frame.proofs.Cursor.resource_id.Reads as resource-id-reads
-use Rattle.wellformed.proofs.filled.Reads as filled-reads
 
 resource-id-requires : tie.Need-resource-id-requires
 resource-id-requires c κs = search needs

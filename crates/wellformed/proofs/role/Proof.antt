@@ -1,14 +1,9 @@
 use denote.Ref.{now}
 use Rattle.wellformed.proofs.FieldLaws.{wide-by}
 use Rattle.model.proofs.FormatsLaws.{roleF-law}
-use native.Mathlib.Omega.{arith}
 use borrow.Author.Needs.{needs}
 use Rattle.wellformed.proofs.role.Statement.{statement}
 use Rattle.wellformed.proofs.role.Tie as tie
-use Rattle.wellformed.proofs.role.Reads as reads
-use Rattle.wellformed.proofs.role.Lts as lts
-use Rattle.frame.proofs.Cursor.role.Reads as role-reads
-use Rattle.wellformed.proofs.filled.Reads as filled-reads
 
 role-requires : tie.Need-role-requires
 role-requires c κs = search needs

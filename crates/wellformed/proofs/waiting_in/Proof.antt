@@ -1,12 +1,8 @@
 use denote.Ref.{now}
 use Rattle.wellformed.proofs.States.{edits-of, queues-of}
-use native.Mathlib.Omega.{arith}
 use borrow.Author.Needs.{needs}
 use Rattle.wellformed.proofs.waiting_in.Statement.{statement}
 use Rattle.wellformed.proofs.waiting_in.Tie as tie
-use Rattle.wellformed.proofs.waiting_in.Reads as reads
-use Rattle.wellformed.proofs.waiting_in.Lts as lts
-use Rattle.wellformed.proofs.entries_at.Reads as entries-at-reads
 
 entries-at-requires : tie.Need-entries-at-requires
 entries-at-requires c κs = search needs
