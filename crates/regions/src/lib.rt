@@ -2,7 +2,7 @@
 use frame::Cursor;
 ghost use mathlib.Core.Path.{_≡_};
 ghost use mathlib.Core.Bool.{true};
-ghost use Prim.Native.Nat.{_+_, _*_, _≤_, _<_};
+ghost use Prim.Native.Nat.{_+_, _*_, _≤_};
 ghost use lib.ListN.{length, drop};
 ghost use Rattle.spans.specs.Bytes.{both, allZero};
 ghost use Rattle.tables.specs.Table.{Holds, slotsOf};
