@@ -8,13 +8,14 @@ ghost use mathlib.Core.Bool.{true, false};
 ghost use Prim.Native.Nat.{_+_, _*_, _≤_, _<_};
 ghost use lib.ListN.{length, take, drop, getD};
 ghost use Rattle.spans.specs.Compare.{order};
-ghost use Rattle.tables.specs.Table.{Holds, slotsOf, text};
+ghost use Rattle.format.specs.Format.{All};
+ghost use Rattle.tables.specs.Table.{Holds, slotsOf, text, flat};
 ghost use Rattle.lent.specs.Lent.{placed};
 ghost use Rattle.model.specs.Limits.{document01};
 ghost use Rattle.model.specs.Seam.{ResourceId};
 ghost use Rattle.model.specs.State.{Pending};
 ghost use Rattle.model.specs.Formats.{resourceId};
-ghost use Rattle.state.specs.Layout.{padded, pending-slot};
+ghost use Rattle.state.specs.Layout.{padded, name-slot, pending-slot};
 ghost use Rattle.state.specs.Fits.{PendingFits};
 ghost use Rattle.state.specs.Contract.{HasState, Reads, Edits, Tries};
 ghost use Rattle.state.specs.Values.{name-of, Named};
@@ -30,7 +31,7 @@ ghost use Rattle.waiting.specs.Slots.{HasSlots, ReadsSlots, EditsSlots, 
 ghost use Rattle.waiting.specs.Entries.{FindsEntry, ListsResources, PlanBytes, EditBytes, IsEdit, FoldBytes};
 ghost use Rattle.waiting.specs.Texts.{text-end, texts-end};
 ghost use Rattle.waiting.specs.Reading.{entry-byte, operation-case-of, by-attendee, expiry-of, ids-number, ReadsId};
-ghost use Rattle.model.specs.Maps.{is-some-and};
+ghost use Rattle.model.specs.Maps.{is-some-and, map};
 ghost use Rattle.model.specs.Sync.{due};
 ghost use Rattle.state.specs.Values.{number-in, bits-in};
 
@@ -161,6 +162,15 @@ pub fn resources(work: &[u8]) -> ResourceNames
         count += 1;
     }
     ResourceNames { count, bytes }
+}
+
+// The k-th of them, counted from 0.
+pub fn resource_name(names: ResourceNames, k: usize) -> Name
+    requires { ⌜ (k < 6) × (length (names .bytes) ≡ 198) ⌝ }
+    ensures { λ r. ⌜ ((ks : List ResourceId) → All (resourceId .Ok) ks → names .bytes ≡ padded 198 (flat (map name-slot ks)) → k < length ks → Named (r .bytes) × (name-of (r .bytes) ≡ getD ks k [])) ⌝ }
+{
+    let bytes = names.bytes;
+    names::name_at(&bytes, k * 33)
 }
 
 // ---- writing slots
