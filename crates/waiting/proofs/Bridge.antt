@@ -1,9 +1,9 @@
 -- The words of the contracts in the words of the model. Assumes nothing.
-use Prim.Native.Nat.{ℕ, zero, suc, _+_, _-_, _*_, _≤_, _<_}
+use Prim.Native.Nat.{ℕ, suc, _+_, _-_}
 use native.Mathlib.Omega.{arith}
-use mathlib.Core.Path.{_≡_, refl, sym, ap, ap₂, _∙_, subst}
+use mathlib.Core.Path.{_≡_, refl, sym, ap, _∙_, subst}
 use mathlib.Core.List.{List, [], _∷_, _++_}
-use mathlib.Core.Option.{Option, none, some, Option·none-ne-some}
+use mathlib.Core.Option.{some}
 use lib.ListN.{length, take, drop}
 use lib.Dec.{leb}
 use Rattle.format.specs.Format.{text}
@@ -12,7 +12,7 @@ use Rattle.model.specs.Event.{Text}
 use Rattle.model.specs.Seam.{ResourceId}
 use Rattle.model.specs.Parts.{MergeOutcome}
 use Rattle.model.specs.Edits.{Edit, Operation}
-use Rattle.model.specs.State.{Pending, Queue, SyncState}
+use Rattle.model.specs.State.{Pending, Queue}
 use Rattle.model.specs.Limits.{max-id, max-text}
 use Rattle.model.specs.Maps.{first}
 use Rattle.model.specs.Formats.{resourceId, shortText}

@@ -1,12 +1,12 @@
 -- The slots of all queues, cut at one resource: those before it, its own, and those behind it. Another queue for it takes the place
 -- of its own. Assumes nothing.
-use Prim.Native.Nat.{ℕ, zero, suc, _+_, _-_, _*_, _≤_, _<_, Ordering, Ordering·lt, Ordering·eq, Ordering·gt}
+use Prim.Native.Nat.{ℕ, suc, _+_, _-_, _*_, _≤_, Ordering·lt, Ordering·eq, Ordering·gt}
 use native.Mathlib.Nat.{zero-add, zero-mul, suc-mul}
 use native.Mathlib.Omega.{arith}
 use mathlib.Core.Path.{_≡_, refl, sym, ap, ap₂, _∙_, subst}
-use mathlib.Core.List.{List, [], _∷_, _++_, append-assoc, append-nil}
-use mathlib.Core.Option.{Option, none, some}
-use mathlib.Core.Bool.{Bool, true, false, _&&_}
+use mathlib.Core.List.{List, [], _∷_, _++_, append-assoc}
+use mathlib.Core.Option.{some}
+use mathlib.Core.Bool.{Bool, true, false}
 use lib.ListN.{length, length-append}
 use lib.Dec.{T}
 use Rattle.format.specs.Format.{All}
@@ -16,7 +16,7 @@ use Rattle.spans.specs.declared.Order.the-variants.{Less, Equal, Greater}
 use Rattle.tables.specs.Table.{Table, text}
 use Rattle.model.specs.Event.{Text}
 use Rattle.model.specs.Seam.{ResourceId}
-use Rattle.model.specs.State.{Map, Pending, Queue, SyncState}
+use Rattle.model.specs.State.{Map, Pending, Queue}
 use Rattle.model.specs.Limits.{document01}
 use Rattle.model.specs.Maps.{by, by-name, get, insert, remove, map, keys, values}
 use Rattle.model.specs.Machine.{match_none:_some:_, sum}

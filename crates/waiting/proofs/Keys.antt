@@ -1,13 +1,13 @@
 -- The resources that have a queue, read off the slots one queue after the other. Assumes nothing.
-use Prim.Native.Nat.{ℕ, zero, suc, _+_, _-_, _*_, _≤_, _<_, Ordering, Ordering·lt, Ordering·eq, Ordering·gt}
+use Prim.Native.Nat.{ℕ, zero, suc, _+_, _-_, _*_, _≤_, _<_, Ordering·lt, Ordering·gt}
 use native.Mathlib.Nat.{add-zero, suc-mul, zero-mul, not-suc-le-zero, le-of-suc-le-suc}
 use native.Mathlib.Omega.{arith}
 use mathlib.Core.Path.{_≡_, refl, sym, ap, ap₂, _∙_, subst}
 use mathlib.Core.List.{List, [], _∷_, _++_, append-assoc, append-nil}
-use mathlib.Core.Option.{Option, none, some}
-use mathlib.Core.Bool.{Bool, true, false, _&&_}
-use lib.ListN.{length, take, drop, getD, length-append, length-replicate, replicate-append-replicate}
-use lib.Seq.{take-at, drop-at, drop-append-add, getD-append-add, take-take}
+use mathlib.Core.Option.{some}
+use mathlib.Core.Bool.{true, false}
+use lib.ListN.{length, take, drop, getD, length-append}
+use lib.Seq.{take-at, drop-append-add, getD-append-add, take-take}
 use lib.Dec.{T}
 use Rattle.format.specs.Format.{All}
 use Rattle.spans.specs.Bytes.{zeros}
@@ -21,8 +21,8 @@ use Rattle.model.specs.Machine.{match_none:_some:_}
 use Rattle.model.specs.Formats.{resourceId}
 use Rattle.model.specs.WellFormed.{rising}
 use Rattle.model.proofs.Tables as orders
-use Rattle.state.specs.Layout.{padded, field, name-slot, pending-slot, edit-slots}
-use Rattle.state.specs.Fits.{PendingFits, QueueFits}
+use Rattle.state.specs.Layout.{padded, name-slot, pending-slot, edit-slots}
+use Rattle.state.specs.Fits.{QueueFits}
 use Rattle.state.specs.Contract.{Keeps, HasState, Reads}
 use Rattle.state.specs.Values.{name-of, Named}
 use Rattle.state.proofs.Rows.{length-rows}
@@ -30,7 +30,6 @@ use Rattle.state.proofs.Padded.{length-name, length-padded, text-name-only}
 use Rattle.waiting.specs.Queues.{queue-in, queue}
 use Rattle.waiting.specs.Entries.{ListsResources}
 use Rattle.waiting.proofs.Cuts.{Slot, Rows, Flat}
-use Rattle.waiting.proofs.Lists as lists
 use Rattle.waiting.proofs.Splices as splices
 use Rattle.waiting.proofs.Writes.{drop-zeros}
 
