@@ -10,3 +10,4 @@ pub mod Folds
 pub mod Moves
 pub mod Reading
 pub mod Bridge
+pub mod Algebra
