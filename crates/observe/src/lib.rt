@@ -104,13 +104,7 @@ fn unread(work: &[u8]) -> NameList
     NameList { count, bytes }
 }
 
-fn read_each(
-    work: &mut [u8],
-    out: &mut [u8],
-    p: Progress,
-    names: &[u8],
-    count: usize,
-) -> Progress
+fn read_each(work: &mut [u8], out: &mut [u8], p: Progress, names: &[u8], count: usize) -> Progress
     requires { ⌜ HasState (now work) ⌝ }
     requires { ⌜ HasList count (now names) ⌝ }
     ensures { λ r. ⌜ ((l : Vec Text) → Listed l count (now (names .entry)) → Does (for-each read-for-pass l) (now (work .entry)) (now (out .entry)) p r (now (work .exit)) (now (out .exit))) ⌝ }
