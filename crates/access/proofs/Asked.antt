@@ -30,7 +30,7 @@ state-of {b} {s} e =
     let p = states-exact document01 b s .0 e in
     record { state = s; well = p .0; bytes = p .1 ∙ sym (layout-is document01 s (fits-of document01 s (p .0))) }
 
-module _ {A : Type 0} (f : SyncState → A) (missing : A) {b : List ℕ} where
+module _ {A : Type 0} (f : SyncState → A) (missing : A) (b : List ℕ) where
   pub asked-short : (length b ≡ state-length → ⊥) → asked f missing b ≡ (1, missing)
   unfolding asked if_then_else_
   asked-short g = rw (ne-eqb (length b) state-length g)
@@ -39,7 +39,7 @@ module _ {A : Type 0} (f : SyncState → A) (missing : A) {b : List ℕ} where
   unfolding asked if_then_else_ match_none:_some:_
   asked-other l g = rw (eq-eqb (length b) state-length l) (go (read-state document01 b) refl)
     where
-      go : (o : Option SyncState) → read-state document01 b ≡ o → (match o none: (2, missing) some: (λ s. (0, f s))) ≡ (2, missing)
+      go : (o : Option SyncState) → read-state document01 b ≡ o → _≡_ {A = ℕ × A} (match o none: (2, missing) some: (λ s. (0, f s))) (2, missing)
       go none e = refl
       go (some s) e = absurd (g (state-of e))
 

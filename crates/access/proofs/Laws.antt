@@ -94,15 +94,15 @@ module _ {b : List ℕ} {code : ℕ} (C : Checked b code) where
       go true e =
           let l : length b ≡ state-length = eqb-true (length b) state-length e in
           let n : IsState b → ⊥ = λ I. g (C .holds I) in
-          ap (λ (k : ℕ). (k, missing)) (C .other l n) ∙ sym (asked-other f missing l n)
+          ap (λ (k : ℕ). (k, missing)) (C .other l n) ∙ sym (asked-other f missing b l n)
       go false e =
           let n : length b ≡ state-length → ⊥ = eqb-false (length b) state-length e in
-          ap (λ (k : ℕ). (k, missing)) (C .short n) ∙ sym (asked-short f missing n)
+          ap (λ (k : ℕ). (k, missing)) (C .short n) ∙ sym (asked-short f missing b n)
 
   pub answers-yes : {A : Type 0} {f : SyncState → A} (missing : A) {r : A} → code ≡ 0 → Reads f b r → Answers f missing b code r
   answers-yes {A} {f} missing {r} e R =
       let I = C .is e in
-      record { is = ap₂ (λ (k : ℕ) (x : A). (k, x)) e (R .is (I .state) (keeps-of I)) ∙ sym (asked-state f missing (keeps-of I .long) I) }
+      record { is = ap₂ (λ (k : ℕ) (x : A). (k, x)) e (R .is (I .state) (keeps-of I)) ∙ sym (asked-state f missing b (keeps-of I .long) I) }
 
   -- from a callee that answers the code as well
   pub answers-zero : {A : Type 0} {f : SyncState → A} (missing : A) {r : A} {z : ℕ} → code ≡ 0 → z ≡ 0 → Reads f b r → Answers f missing b z r
