@@ -1,22 +1,22 @@
 -- `forget_settled` and `forget_aliases`. Assumes nothing.
-use Prim.Native.Nat.{ℕ, zero, suc, _+_, _-_, _≤_, _<_, Ordering, Ordering·lt, Ordering·eq, Ordering·gt}
+use Prim.Native.Nat.{ℕ, suc, _+_, _-_, _≤_, _<_, Ordering, Ordering·lt, Ordering·eq, Ordering·gt}
 use native.Mathlib.Omega.{arith}
 use mathlib.Core.Path.{_≡_, refl, sym, ap, ap₂, _∙_, subst}
 use mathlib.Core.List.{List, [], _∷_, _++_, append-assoc}
 use mathlib.Core.Option.{Option, none, some, Option·some-injective, Option·none-ne-some}
 use mathlib.Core.Bool.{Bool, true, false, _||_}
-use mathlib.Core.Logic.{_⊎_, inl, inr, ⊎-elim}
+use mathlib.Core.Logic.{inl, inr, ⊎-elim}
 use lib.ListN.{length, getD, length-append}
-use lib.Dec.{T, leb, ltb}
+use lib.Dec.{T, leb}
 use borrow.Author.Tests.{le-leb, lt-leb}
 use Rattle.format.specs.Format.{All}
 use Rattle.tables.specs.Table.{Table, Sized, encTable, text, place}
 use Rattle.tables.specs.declared.Place.{Place}
 use Rattle.tables.specs.declared.Place.the-variants.{Found, Missing}
 use Rattle.lent.specs.Lent.{part}
-use Rattle.model.specs.Event.{Text, ProviderEvent}
-use Rattle.model.specs.Seam.{ResourceId, RequestId}
-use Rattle.model.specs.State.{Map, Staged, Pass, Queue, SyncState}
+use Rattle.model.specs.Event.{Text}
+use Rattle.model.specs.Seam.{ResourceId}
+use Rattle.model.specs.State.{Map, Pass, Queue, SyncState}
 use Rattle.model.specs.Limits.{document01}
 use Rattle.model.specs.Maps.{if_then_else_, by, by-name, any, filter, first, get, remove, map, keys, values, retain, has, is-some, is-some-and}
 use Rattle.model.specs.Formats.{resourceId}

@@ -1,8 +1,8 @@
 -- `on_refresh`. Assumes nothing.
 use Prim.Native.Nat.{ℕ}
-use mathlib.Core.Path.{_≡_, refl, sym, ap, _∙_, subst}
+use mathlib.Core.Path.{_≡_, refl, sym, ap, subst}
 use mathlib.Core.List.{List}
-use mathlib.Core.Option.{Option, none, some}
+use mathlib.Core.Option.{Option, none}
 use mathlib.Core.Bool.{Bool, true, false, _||_, false≢true}
 use lib.Dec.{ltb}
 use Rattle.format.specs.Format.{option, via, enum, _∣_}
@@ -11,7 +11,7 @@ use Rattle.model.specs.Seam.{ResourceId, RequestId}
 use Rattle.model.specs.State.{SyncState}
 use Rattle.model.specs.Maps.{if_then_else_, by-name, get, is-some-and}
 use Rattle.model.specs.Formats.{eventF, outcomeF}
-use Rattle.model.specs.Machine.{Machine, Run, ok}
+use Rattle.model.specs.Machine.{Machine}
 use Rattle.model.specs.Sync.{doubtful, doubt, observe, Answer, answer-failed, answer, refresh-answered, on-refresh}
 use Rattle.frame.specs.Meaning.{optionEventAt, meantFailure, meantOutcome}
 use Rattle.frame.specs.declared.Failure.{Failure}

@@ -2,13 +2,13 @@
 use Prim.Native.Nat.{ℕ, _+_}
 use mathlib.Core.Path.{_≡_}
 use mathlib.Core.List.{List, [], _∷_, _++_}
-use mathlib.Core.Option.{Option, none, some}
+use mathlib.Core.Option.{none, some}
 use mathlib.Core.Bool.{Bool, true, false, _||_}
 use mathlib.Core.Logic.{_⊎_}
 use lib.ListN.{length}
 use lib.Dec.{leb, ltb}
 use Rattle.model.specs.Seam.{ResourceId, RequestId}
-use Rattle.model.specs.State.{Map, Pass, SyncState}
+use Rattle.model.specs.State.{Map, SyncState}
 use Rattle.model.specs.Maps.{if_then_else_, by-name, any, filter, first, get, keys, values, has, is-some, is-some-and}
 use Rattle.model.specs.Machine.{match_none:_some:_}
 use Rattle.model.specs.Sync.{asks-about}

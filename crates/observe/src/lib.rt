@@ -38,6 +38,13 @@ ghost use Rattle.observe.specs.Reading.{Noted, HasList, all-unread, read
 ghost use Rattle.observe.specs.Observing.{gives-way, see-or-watch, watch-unless-done};
 ghost use Rattle.observe.specs.Forgetting.{settled-before, settled, held-in-pass, held-in, with-held-aliases, Tested};
 
+// The staged entries' region of the work buffer.
+const STAGED: usize = 9221;
+
+const STAGED_SIZE: usize = 9161;
+
+const STAGED_SLOT: usize = 916;
+
 // ---- the open pass
 
 // pass.staged.insert(name, Staged::Unread)
@@ -103,7 +110,7 @@ fn note_all(work: &[u8], names: &mut [u8]) -> usize
     requires { ⌜ now names ≡ zeros 792 ⌝ }
     ensures { λ r. ⌜ Noted (getD (now (work .entry)) 9221 0) r (now (work .entry)) (now (names .exit)) ⌝ }
 {
-    let total = work[9221] as usize;
+    let total = work[STAGED] as usize;
     let mut i = 0;
     let mut n = 0;
     while i < total {
@@ -123,13 +130,7 @@ fn unread(work: &[u8]) -> NameList
     NameList { count, bytes }
 }
 
-fn read_each(
-    work: &mut [u8],
-    out: &mut [u8],
-    p: Progress,
-    names: &[u8],
-    count: usize,
-) -> Progress
+fn read_each(work: &mut [u8], out: &mut [u8], p: Progress, names: &[u8], count: usize) -> Progress
     requires { ⌜ HasState (now work) ⌝ }
     requires { ⌜ HasList count (now names) ⌝ }
     ensures { λ r. ⌜ ((l : Vec Text) → ListedNames l count (now (names .entry)) → Does (for-each read-for-pass l) (now (work .entry)) (now (out .entry)) p r (now (work .exit)) (now (out .exit))) ⌝ }
@@ -341,7 +342,13 @@ pub fn observe_at(work: &mut [u8], p: Progress, resource: Name, frame: &[u8], at
 }
 
 // observe, of what a read found: the event, or none, at a place of the frame
-pub fn observe_read(work: &mut [u8], p: Progress, resource: Name, frame: &[u8], at: usize) -> Progress
+pub fn observe_read(
+    work: &mut [u8],
+    p: Progress,
+    resource: Name,
+    frame: &[u8],
+    at: usize,
+) -> Progress
     requires { ⌜ HasState (now work) ⌝ }
     requires { ⌜ (Named (resource .bytes)) × (option eventF .Ok (optionEventAt (now frame) at)) ⌝ }
     ensures { λ r. ⌜ Changes (observe (name-of (resource .bytes)) (optionEventAt (now (frame .entry)) at)) (now (work .entry)) p r (now (work .exit)) ⌝ }
@@ -503,12 +510,6 @@ fn has_record(work: &[u8], name: Name) -> bool
         }
     }
 }
-
-const STAGED: usize = 9221;
-
-const STAGED_SIZE: usize = 9161;
-
-const STAGED_SLOT: usize = 916;
 
 fn is_staged(work: &[u8], name: Name) -> bool
     requires { ⌜ HasState (now work) ⌝ }

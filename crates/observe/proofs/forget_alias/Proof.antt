@@ -3,8 +3,6 @@ use native.Mathlib.Omega.{arith}
 use borrow.Author.Needs.{needs}
 use Rattle.observe.proofs.forget_alias.Statement.{statement}
 use Rattle.observe.proofs.forget_alias.Tie as tie
-use Rattle.observe.proofs.forget_alias.Reads as reads
-use Rattle.observe.proofs.forget_alias.Lts as lts
 
 alias-to-requires : tie.Need-alias-to-requires
 alias-to-requires c κs = search needs
@@ -13,7 +11,7 @@ held-anywhere-requires : tie.Need-held-anywhere-requires
 held-anywhere-requires c κs = (c .before .before .before .before .pre .0, forgetting.to-named (c .before .before .before .before .args .work .now) _ (c .before .before .before .before .args .i) (c .before .before .before .before .pre .0) (c .before .before .before .before .pre .1) (c .before .alias-to .ensures))
 
 add-result : tie.Need-add-result
-add-result c = 
+add-result c =
     let h = forgetting.few (c .before .before .before .before .before .before .args .work .now) (c .before .before .before .before .before .before .args .i) (c .before .before .before .before .before .before .pre .0) (c .before .before .before .before .before .before .pre .1) in
     omega arith
 

@@ -5,8 +5,6 @@ use native.Mathlib.Omega.{arith}
 use borrow.Author.Needs.{needs}
 use Rattle.observe.proofs.forget_aliases.Statement.{statement}
 use Rattle.observe.proofs.forget_aliases.Tie as tie
-use Rattle.observe.proofs.forget_aliases.Reads as reads
-use Rattle.observe.proofs.forget_aliases.Lts as lts
 
 abbrev Inv-loop : tie.InvT-loop
 Inv-loop work₀ left₀ i₀ work left i = (length work ≡ length work₀) × forgetting.Retaining work₀ work i left

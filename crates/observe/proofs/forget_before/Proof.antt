@@ -1,11 +1,8 @@
 use Rattle.observe.proofs.Forgetting as forgetting
 use Rattle.machine.proofs.Runs as runs
-use native.Mathlib.Omega.{arith}
 use borrow.Author.Needs.{needs}
 use Rattle.observe.proofs.forget_before.Statement.{statement}
 use Rattle.observe.proofs.forget_before.Tie as tie
-use Rattle.observe.proofs.forget_before.Reads as reads
-use Rattle.observe.proofs.forget_before.Lts as lts
 
 retain-learned-requires : tie.Need-retain-learned-requires
 retain-learned-requires c κs = search needs

@@ -1,11 +1,8 @@
 use Rattle.observe.proofs.Forgetting as forgetting
 use Rattle.machine.proofs.Runs as runs
-use native.Mathlib.Omega.{arith}
 use borrow.Author.Needs.{needs}
 use Rattle.observe.proofs.forget_settled.Statement.{statement}
 use Rattle.observe.proofs.forget_settled.Tie as tie
-use Rattle.observe.proofs.forget_settled.Reads as reads
-use Rattle.observe.proofs.forget_settled.Lts as lts
 
 first-in-flight-requires : tie.Need-first-in-flight-requires
 first-in-flight-requires c κs = search needs

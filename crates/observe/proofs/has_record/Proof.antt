@@ -1,10 +1,7 @@
 use Rattle.observe.proofs.Forgetting as forgetting
-use native.Mathlib.Omega.{arith}
 use borrow.Author.Needs.{needs}
 use Rattle.observe.proofs.has_record.Statement.{statement}
 use Rattle.observe.proofs.has_record.Tie as tie
-use Rattle.observe.proofs.has_record.Reads as reads
-use Rattle.observe.proofs.has_record.Lts as lts
 
 find-record-requires : tie.Need-find-record-requires
 find-record-requires c κs = search needs

@@ -1,10 +1,7 @@
 use Rattle.observe.proofs.Forgetting as forgetting
-use native.Mathlib.Omega.{arith}
 use borrow.Author.Needs.{needs}
 use Rattle.observe.proofs.held_anywhere.Statement.{statement}
 use Rattle.observe.proofs.held_anywhere.Tie as tie
-use Rattle.observe.proofs.held_anywhere.Reads as reads
-use Rattle.observe.proofs.held_anywhere.Lts as lts
 
 has-record-requires : tie.Need-has-record-requires
 has-record-requires c κs = search needs

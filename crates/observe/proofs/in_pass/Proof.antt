@@ -1,10 +1,7 @@
 use Rattle.observe.proofs.Forgetting as forgetting
-use native.Mathlib.Omega.{arith}
 use borrow.Author.Needs.{needs}
 use Rattle.observe.proofs.in_pass.Statement.{statement}
 use Rattle.observe.proofs.in_pass.Tie as tie
-use Rattle.observe.proofs.in_pass.Reads as reads
-use Rattle.observe.proofs.in_pass.Lts as lts
 
 is-staged-requires : tie.Need-is-staged-requires
 is-staged-requires c κs = search needs

@@ -7,14 +7,12 @@ use native.Mathlib.Omega.{arith}
 use borrow.Author.Needs.{needs}
 use Rattle.observe.proofs.is_staged.Statement.{statement}
 use Rattle.observe.proofs.is_staged.Tie as tie
-use Rattle.observe.proofs.is_staged.Reads as reads
-use Rattle.observe.proofs.is_staged.Lts as lts
 
 slice-aggregate-find-in : tie.Need-slice-aggregate-find-in
 slice-aggregate-find-in c = search needs
 
 find-in-requires : tie.Need-find-in-requires
-find-in-requires c κs = 
+find-in-requires c κs =
     let a = ops.named-long (c .before .before .before .args .name .bytes) (c .before .before .before .pre .1) in
     (columns.has-lent staged.staged-column (c .before .before .before .pre .0), omega arith)
 

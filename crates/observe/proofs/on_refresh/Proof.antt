@@ -1,12 +1,9 @@
 use Rattle.observe.proofs.Refreshing as refreshing
 use mathlib.Core.Path.{ap}
 use Rattle.state.specs.Values.{name-of}
-use native.Mathlib.Omega.{arith}
 use borrow.Author.Needs.{needs}
 use Rattle.observe.proofs.on_refresh.Statement.{statement}
 use Rattle.observe.proofs.on_refresh.Tie as tie
-use Rattle.observe.proofs.on_refresh.Reads as reads
-use Rattle.observe.proofs.on_refresh.Lts as lts
 
 enum-known-outcome : tie.Need-enum-known-outcome
 enum-known-outcome c = search needs

@@ -1,12 +1,9 @@
 use Rattle.observe.proofs.Refreshing as refreshing
 use mathlib.Core.Path.{ap}
 use Rattle.state.specs.Values.{name-of}
-use native.Mathlib.Omega.{arith}
 use borrow.Author.Needs.{needs}
 use Rattle.observe.proofs.refresh_failed.Statement.{statement}
 use Rattle.observe.proofs.refresh_failed.Tie as tie
-use Rattle.observe.proofs.refresh_failed.Reads as reads
-use Rattle.observe.proofs.refresh_failed.Lts as lts
 
 enum-told : tie.Need-enum-told
 enum-told c = search needs

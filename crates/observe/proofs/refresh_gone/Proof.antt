@@ -1,10 +1,7 @@
 use Rattle.observe.proofs.Refreshing as refreshing
-use native.Mathlib.Omega.{arith}
 use borrow.Author.Needs.{needs}
 use Rattle.observe.proofs.refresh_gone.Statement.{statement}
 use Rattle.observe.proofs.refresh_gone.Tie as tie
-use Rattle.observe.proofs.refresh_gone.Reads as reads
-use Rattle.observe.proofs.refresh_gone.Lts as lts
 
 doubtful-requires : tie.Need-doubtful-requires
 doubtful-requires c κs = search needs

@@ -1,10 +1,7 @@
 use Rattle.observe.proofs.Refreshing as refreshing
-use native.Mathlib.Omega.{arith}
 use borrow.Author.Needs.{needs}
 use Rattle.observe.proofs.refresh_read.Statement.{statement}
 use Rattle.observe.proofs.refresh_read.Tie as tie
-use Rattle.observe.proofs.refresh_read.Reads as reads
-use Rattle.observe.proofs.refresh_read.Lts as lts
 
 doubtful-requires : tie.Need-doubtful-requires
 doubtful-requires c κs = search needs
