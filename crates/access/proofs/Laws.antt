@@ -8,7 +8,8 @@ use mathlib.Core.Option.{Option, none, some, Option·none-ne-some}
 use mathlib.Core.Bool.{Bool, true, false}
 use lib.ListN.{length, take, drop, getD}
 use lib.Seq.{take-at, drop-at, take-all, getD-take, getD-drop}
-use lib.Dec.{T, isEq}
+use lib.Dec.{T, isEq, eqb}
+use borrow.Author.Tests.{eqb-true, eqb-false}
 use Rattle.format.specs.Format.{option, via, enum, _∣_, nothing, text as text-format, number, bigEndian}
 use Rattle.spans.specs.Bytes.{zeros}
 use Rattle.spans.specs.Compare.{order}
@@ -46,7 +47,8 @@ use Rattle.wellformed.specs.IsState.{IsState}
 use Rattle.wellformed.specs.Tests.{one, countSlots}
 use Rattle.wellformed.proofs.States.{keeps-of, entries-are}
 use Rattle.wellformed.proofs.Flights.{same-order, slot-text}
-use Rattle.access.specs.Answers.{Checked, Answers, Freshened, nth, numbered, record-bytes, isOf}
+use Rattle.access.proofs.Asked.{asked-short, asked-other, asked-state, freshened-short, freshened-made}
+use Rattle.access.specs.Answers.{asked, Checked, Answers, Freshened, nth, numbered, record-bytes, isOf}
 
 -- ---- the code
 
@@ -86,19 +88,21 @@ module _ {b : List ℕ} {code : ℕ} (C : Checked b code) where
   has-of e = let I = C .is e in record { state = I .state; keeps = keeps-of I }
 
   pub answers-no : {A : Type 0} (f : SyncState → A) (missing : A) → (code ≡ 0 → ⊥) → Answers f missing b code missing
-  answers-no f missing g = record {
-    short = λ h. (C .short h, refl);
-    other = λ l h. (C .other l h, refl);
-    holds = λ I. absurd (g (C .holds I));
-  }
+  answers-no f missing g = record { is = go (eqb (length b) state-length) refl }
+    where
+      go : (e : Bool) → eqb (length b) state-length ≡ e → (code, missing) ≡ asked f missing b
+      go true e =
+          let l : length b ≡ state-length = eqb-true (length b) state-length e in
+          let n : IsState b → ⊥ = λ I. g (C .holds I) in
+          ap (λ (k : ℕ). (k, missing)) (C .other l n) ∙ sym (asked-other f missing b l n)
+      go false e =
+          let n : length b ≡ state-length → ⊥ = eqb-false (length b) state-length e in
+          ap (λ (k : ℕ). (k, missing)) (C .short n) ∙ sym (asked-short f missing b n)
 
   pub answers-yes : {A : Type 0} {f : SyncState → A} (missing : A) {r : A} → code ≡ 0 → Reads f b r → Answers f missing b code r
-  answers-yes missing e R =
-      let I = C .is e in record {
-        short = λ h. absurd (h (keeps-of I .long));
-        other = λ l h. absurd (h I);
-        holds = λ J. (C .holds J, R .is (J .state) (keeps-of J));
-      }
+  answers-yes {A} {f} missing {r} e R =
+      let I = C .is e in
+      record { is = ap₂ (λ (k : ℕ) (x : A). (k, x)) e (R .is (I .state) (keeps-of I)) ∙ sym (asked-state f missing b (keeps-of I .long) I) }
 
   -- from a callee that answers the code as well
   pub answers-zero : {A : Type 0} {f : SyncState → A} (missing : A) {r : A} {z : ℕ} → code ≡ 0 → z ≡ 0 → Reads f b r → Answers f missing b z r
@@ -107,10 +111,10 @@ module _ {b : List ℕ} {code : ℕ} (C : Checked b code) where
 -- ---- a fresh state
 
 pub fresh-short : (b : List ℕ) → (length b ≡ state-length → ⊥) → Freshened b b 1
-fresh-short b g = record { short = λ h. (refl, refl); made = λ l. absurd (g l) }
+fresh-short b g = record { is = sym (freshened-short b g) }
 
 pub fresh-made : (b w : List ℕ) → length b ≡ state-length → w ≡ zeros (length b) → Freshened b w 0
-fresh-made b w l e = record { short = λ h. absurd (h l); made = λ m. (refl, e ∙ ap zeros l ∙ sym fresh-bytes) }
+fresh-made b w l e = record { is = ap (λ (x : List ℕ). (0, x)) (e ∙ ap zeros l ∙ sym fresh-bytes) ∙ sym (freshened-made b l) }
 
 -- ---- the entry at a place
 

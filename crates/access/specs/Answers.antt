@@ -6,34 +6,44 @@ use mathlib.Core.Bool.{Bool, true, false}
 use mathlib.Core.List.{List, [], _∷_}
 use mathlib.Core.Option.{Option, none, some}
 use lib.ListN.{length}
+use lib.Dec.{eqb}
 use Rattle.spans.specs.Compare.{order}
 use Rattle.tables.specs.Table.{text, isEqual}
 use Rattle.model.specs.Event.{ProviderEvent}
 use Rattle.model.specs.Seam.{ResourceId}
 use Rattle.model.specs.State.{SyncState, new}
 use Rattle.model.specs.Limits.{document01}
+use Rattle.model.specs.Maps.{if_then_else_}
+use Rattle.model.specs.Machine.{match_none:_some:_}
 use Rattle.model.specs.Formats.{eventF}
-use Rattle.state.specs.Layout.{layout}
+use Rattle.model.specs.Layout.{stateBytes}
+use Rattle.model.specs.Entry.{read-state}
 use Rattle.state.specs.Contract.{state-length}
 use Rattle.wellformed.specs.IsState.{IsState}
 
--- the code for lent bytes
+-- what a reading function answers: the code, and what is asked of the state, or `missing` where the code is a refusal
+unfoldable pub asked : {A : Type 0} → (SyncState → A) → A → List ℕ → ℕ × A
+asked f missing bytes =
+    if eqb (length bytes) state-length
+    then (match read-state document01 bytes none: (2, missing) some: (λ s. (0, f s)))
+    else (1, missing)
+
+pub record Answers {A : Type 0} (f : SyncState → A) (missing : A) (bytes : List ℕ) (code : ℕ) (answer : A) : Type 0 where
+  pub is : (code, answer) ≡ asked f missing bytes
+
+-- what making a fresh state answers and leaves: 1, and the buffer as it is, where the length is wrong
+unfoldable pub freshened : List ℕ → ℕ × List ℕ
+freshened bytes = if eqb (length bytes) state-length then (0, stateBytes document01 .enc new) else (1, bytes)
+
+pub record Freshened (before after : List ℕ) (code : ℕ) : Type 0 where
+  pub is : (code, after) ≡ freshened before
+
+-- the code alone
 pub record Checked (b : List ℕ) (code : ℕ) : Type 0 where
   pub short : (length b ≡ state-length → ⊥) → code ≡ 1
   pub other : length b ≡ state-length → (IsState b → ⊥) → code ≡ 2
   pub holds : IsState b → code ≡ 0
   pub is : code ≡ 0 → IsState b
-
--- the code, and what is asked of the state, or `missing` where the code is a refusal
-pub record Answers {A : Type 0} (f : SyncState → A) (missing : A) (b : List ℕ) (code : ℕ) (answer : A) : Type 0 where
-  pub short : (length b ≡ state-length → ⊥) → (code ≡ 1) × (answer ≡ missing)
-  pub other : length b ≡ state-length → (IsState b → ⊥) → (code ≡ 2) × (answer ≡ missing)
-  pub holds : (I : IsState b) → (code ≡ 0) × (answer ≡ f (I .state))
-
--- a fresh state is made of any buffer of the right length, and another is left as it is
-pub record Freshened (before after : List ℕ) (code : ℕ) : Type 0 where
-  pub short : (length before ≡ state-length → ⊥) → (code ≡ 1) × (after ≡ before)
-  pub made : length before ≡ state-length → (code ≡ 0) × (after ≡ layout document01 new)
 
 -- the entry at a place in order
 unfoldable pub nth : {A : Type 0} → ℕ → List A → Option A

@@ -34,7 +34,7 @@ pub fn fresh(state: &mut [u8]) -> u8
 }
 
 // The refusal of the bytes, or 0.
-pub fn refusal(state: &[u8]) -> u8
+fn refusal(state: &[u8]) -> u8
     ensures { λ r. ⌜ Checked (now (state .entry)) r ⌝ }
 {
     if state.len() != STATE {

@@ -9,3 +9,5 @@ pub mod Laws
 pub mod Folds
 pub mod Moves
 pub mod Reading
+pub mod Bridge
+pub mod Algebra

@@ -40,7 +40,7 @@ use Rattle.wellformed.proofs.FieldLaws.{wide-law}
 
 -- ---- an entry is read field by field
 
-entryF-law : Lawful entryF
+pub entryF-law : Lawful entryF
 unfolding entryF
 entryF-law =
     pair-law (wide-law resourceId-law 33) (pair-law (wide-law shortText-law 33) (pair-law (wide-law operationF-law 1469) (pair-law (wide-law roleF-law 34) (pair-law (wide-law (option-law stamp-law) 9)
@@ -70,9 +70,6 @@ module _ (s : List ℕ) (p : Cursor) where
       → q₉ ≡ skips (wide 265 (list 8 shortText)) s q₈
       → q₉ ≡ skips entryF s p
   entry-by e₁ e₂ e₃ e₄ e₅ e₆ e₇ e₈ e₉ = cc entry-chain
-
-pub entry-law : Lawful entryF
-entry-law = entryF-law
 
 -- ---- the fields of an entry, and the entry of its fields
 

@@ -4,10 +4,10 @@ use native.Mathlib.Omega.{arith}
 use mathlib.Core.Path.{_≡_, refl, sym, ap₂, _∙_, subst}
 use mathlib.Core.List.{List, [], _∷_}
 use mathlib.Core.Option.{Option, none, some}
-use mathlib.Core.Bool.{Bool, true, false, not}
+use mathlib.Core.Bool.{Bool, not}
 use lib.ListN.{length, length-append}
 use lib.Dec.{T, leb, le→leb}
-use Rattle.format.specs.Format.{All, option, via, _⊗_, enum, _∣_, nothing, list, number, bool, below}
+use Rattle.format.specs.Format.{All, option, via, _⊗_, enum, _∣_, nothing, list, number, below}
 use Rattle.model.specs.Seam.{ResourceId}
 use Rattle.model.specs.State.{Map, Pass, Queue, SyncState}
 use Rattle.model.specs.Limits.{Limits, max-conflict-bytes, max-refused-bytes}
@@ -24,6 +24,7 @@ use Rattle.model.proofs.StaysWellFormed.{start-fit}
 use Rattle.state.specs.Layout.{edit-slots, pass-of, no-pass}
 use Rattle.state.specs.Fits.{PassFits, PendingFits, QueueFits, Fits}
 use Rattle.state.proofs.Rows.{length-rows}
+use Rattle.state.proofs.Regions.{bool-ok}
 use Rattle.wellformed.specs.Across.{Across}
 
 module _ (L : Limits) where
@@ -121,11 +122,6 @@ module _ (L : Limits) where
   }
 
   -- ---- and back
-
-  bool-ok : (b : Bool) → bool .Ok b
-  unfolding bool via below
-  bool-ok true = omega arith
-  bool-ok false = omega arith
 
   pending-ok : (r : ResourceId) (q : Queue) → resourceId .Ok r → All (PendingFits L r) q → All (pendingF L .Ok) q
   unfolding pendingF editF via _⊗_

@@ -3,7 +3,7 @@ use native.Mathlib.Nat.{sub-zero}
 use mathlib.Core.Path.{_≡_, sym, _∙_}
 use denote.Ref.{now}
 use Rattle.wellformed.specs.Entries.{entryF}
-use Rattle.wellformed.proofs.EntryLaws.{entry-law}
+use Rattle.wellformed.proofs.EntryLaws.{entryF-law}
 use Rattle.frame.proofs.Skips.{skipN, skips-list, skipN-step, skipN-end}
 use borrow.Author.Needs.{needs}
 use Rattle.wellformed.proofs.slots.Statement.{statement}
@@ -43,7 +43,7 @@ returns c =
     let b = c .before .before .before .count in
     let a = c .before .before .before .before .before .args in
     let s = now (a .s) in
-    sym (skips-list entry-law s 6 (a .place) (b .result .next) (b .result .value) (b .ensures) ∙ (l .inv .1 ∙ skipN-end entryF s (b .result .value) (l .i) (l .c) (search needs)))
+    sym (skips-list entryF-law s 6 (a .place) (b .result .next) (b .result .value) (b .ensures) ∙ (l .inv .1 ∙ skipN-end entryF s (b .result .value) (l .i) (l .c) (search needs)))
 
 pub slots-spec : {M : Type 1} → statement M
 slots-spec =

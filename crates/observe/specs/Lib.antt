@@ -1,0 +1,2 @@
+-- The names that are to be read.
+pub mod Reading

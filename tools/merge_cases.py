@@ -1,0 +1,87 @@
+#!/usr/bin/env python3
+"""Writes merge cases and the published Rust's answers to them: merge_cases.py ORACLE SEED CASES FOLDER
+
+FOLDER/stdin gets the cases back to back (base, ours, theirs, role, as they stand in a frame), FOLDER/stdout a line for each: 06 where the
+merged event has over 8 attendees, else 01 or 00 (changed or not), the merged event where it changed, the conflicts and the refused
+list, in hexadecimal. ORACLE is a program that runs the published `step` on frames, one a line in hexadecimal. Each case runs from a
+fresh state: an update of base and ours, the read of theirs, and the write's reply.
+"""
+import random, subprocess, sys
+
+def text(t): b = t.encode(); return bytes([len(b)]) + b
+def opt(x, f): return b"\0" if x is None else b"\1" + f(x)
+def num(n, w=8): return n.to_bytes(w, "big")
+
+NAMES = [None, "Ann", "Bo"]
+ADDRESSES = ["A@m", "a@m", "b@m", "Z[@`{", "z[@`{", "z{@`{", "c@m"]
+
+def attendee(r, few):
+    return text(r.choice(ADDRESSES[:3] if few else ADDRESSES)) + opt(r.choice(NAMES), text) + bytes([r.randrange(2), r.randrange(3), r.randrange(2)])
+
+def unit(r, i):
+    """The i-th part of an event's fields, from a few values."""
+    if i in (0, 5): return opt(r.choice([None, "x", "y"]), text)
+    if i in (1, 10): return num(r.choice([1, 2, 3]))
+    if i in (2, 6): return opt(r.choice([None, 7, 8]), num)
+    if i == 3: return opt(r.choice([None, "o@m", "O@m"]), lambda a: text(a) + opt(r.choice(NAMES), text))
+    return bytes([r.randrange({7: 3, 8: 2, 9: 4}[i])])
+
+def fields(r, base=None, base_att=None, crowd=False):
+    units = [unit(r, i) if base is None or r.random() < 0.4 else base[i] for i in range(11) if i != 4]
+    if base is not None: units = [u if r.random() < 0.5 else b for u, b in zip(units, [base[i] for i in range(11) if i != 4])]
+    att = [attendee(r, not crowd) for _ in range(r.choice([5, 6, 8] if crowd else [0, 1, 2, 3]))]
+    if base_att is not None and not crowd:
+        att = [a if r.random() < 0.6 else a[:-2] + bytes([r.randrange(3), a[-1]]) for a in base_att]
+        if att and r.random() < 0.3: att.pop(r.randrange(len(att)))
+        if r.random() < 0.4 and len(att) < 8: att.insert(r.randrange(len(att) + 1), attendee(r, True))
+    u = units[:4] + [None] + units[4:]
+    return u, att, b"".join(u[:4]) + bytes([len(att)]) + b"".join(att) + b"".join(u[5:])
+
+def case(r):
+    crowd = r.random() < 0.12
+    bu, ba, base = fields(r, crowd=crowd)
+    _, _, ours = fields(r, bu, ba, crowd)
+    _, _, theirs = fields(r, bu, ba, crowd)
+    event = bytes([r.randrange(4)]) + text("r") + opt(None, text) + opt(None, text) + opt(r.choice([None, "v1"]), text) + num(3, 4) + theirs + num(9)
+    role = b"\0" if r.random() < 0.6 else b"\1" + text(r.choice(ADDRESSES))
+    return base, ours, event, role
+
+def answers(oracle, frames):
+    out = subprocess.run([oracle, "run", "--fast"], input="".join(f.hex() + "\n" for f in frames), capture_output=True, text=True, check=True).stdout.split("\n")
+    at, res = 0, []
+    for _ in frames:
+        n = int(out[at][2:6], 16)
+        res.append((int(out[at][:2], 16), [bytes.fromhex(x) for x in out[at + 1:at + 1 + n]]))
+        at += 1 + n
+    return res
+
+def answer(oracle, base, ours, event, role):
+    edit = b"\1" + text("e") + text("r") + b"\1" + base + ours + role + b"\0"
+    read = b"\2" + num(0) + b"\1\1" + event
+    written = b"\2" + num(1) + b"\2" + event
+    _, (code, effects), (_, after) = answers(oracle, [edit, read, written])
+    if code == 6: return "06"
+    assert code == 0, code
+    if effects[0][0] == 1:
+        applied, merged = effects[0], b""
+    else:
+        body = effects[0][10:]                       # case, number, case
+        assert effects[0][9] == 4
+        body = body[1 + body[0]:]                    # resource
+        merged = body[2 + body[1]:] if body[0] else body[1:]
+        applied = after[0]
+    assert applied[:4] == b"\1\2\1e", applied
+    return "%02x %s %s" % (1 if merged else 0, merged.hex() or "-", applied[4:].hex())
+
+def main():
+    oracle, seed, count, folder = sys.argv[1], int(sys.argv[2]), int(sys.argv[3]), sys.argv[4]
+    r = random.Random(seed)
+    cases = [case(r) for _ in range(count)]
+    lines = [answer(oracle, *c) for c in cases]
+    data = b"".join(b"".join(c) for c in cases)
+    assert len(data) <= 65536, len(data)
+    open(folder + "/stdin", "wb").write(data)
+    open(folder + "/stdout", "w").write("".join(l + "\n" for l in lines))
+    print(len(data), "bytes;", sum(l == "06" for l in lines), "of refusal 6,", sum(l.startswith("01") for l in lines), "changed")
+
+main()
