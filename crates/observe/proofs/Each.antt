@@ -1,8 +1,8 @@
 -- A loop over a list that was taken at the start. Assumes nothing.
-use Prim.Native.Nat.{ℕ, zero, suc, _+_, _≤_, _<_}
+use Prim.Native.Nat.{ℕ, zero, suc, _+_, _<_}
 use native.Mathlib.Nat.{not-suc-le-zero, le-of-suc-le-suc}
 use native.Mathlib.Omega.{arith}
-use mathlib.Core.Path.{_≡_, refl, sym, ap, _∙_, subst}
+use mathlib.Core.Path.{_≡_, refl, sym, ap, _∙_}
 use mathlib.Core.List.{List, [], _∷_, _++_, append-nil}
 use lib.ListN.{length, take, getD}
 use lib.Seq.{take-at}
@@ -28,6 +28,14 @@ unfolding _>>=_
 bind-ok (refused n) = refl
 bind-ok (ok m) = refl
 
+pub take-more : {A : Type 0} (d : A) (i : ℕ) (l : List A) → i < length l → take (suc i) l ≡ take i l ++ (getD l i d ∷ [])
+take-more d i [] h = absurd (not-suc-le-zero h)
+take-more d zero (x ∷ l) h = refl
+take-more {A} d (suc i) (x ∷ l) h = ap (λ (m : List A). x ∷ m) (take-more d i l (le-of-suc-le-suc h))
+
+pub take-whole : {A : Type 0} (l : List A) → take (length l) l ≡ l
+take-whole l = ap (take (length l)) (sym (append-nil l)) ∙ take-at l [] (length l) refl
+
 module _ {A : Type 0} (f : A → Machine → Run) where
   for-snoc : (l : List A) (x : A) (m : Machine) → for-each f (l ++ (x ∷ [])) m ≡ (for-each f l m >>= f x)
   unfolding for-each _>>=_
@@ -38,11 +46,6 @@ module _ {A : Type 0} (f : A → Machine → Run) where
   unfolding for-each
   each-start l = runs.is (for-each f (take 0 l)) (λ m. refl) runs.nothing
 
-  take-more : (d : A) (i : ℕ) (l : List A) → i < length l → take (suc i) l ≡ take i l ++ (getD l i d ∷ [])
-  take-more d i [] h = absurd (not-suc-le-zero h)
-  take-more d zero (x ∷ l) h = refl
-  take-more d (suc i) (x ∷ l) h = ap (λ (m : List A). x ∷ m) (take-more d i l (le-of-suc-le-suc h))
-
   pub each-turn : (l : List A) (d : A) (i : ℕ) {w o w₁ o₁ w₂ o₂ : List ℕ} {p q s : Progress} → i < length l → Does (for-each f (take i l)) w o p q w₁ o₁ → Does (f (getD l i d)) w₁ o₁ q s w₂ o₂
       → Does (for-each f (take (i + 1) l)) w o p s w₂ o₂
   each-turn l d i h D E =
@@ -52,7 +55,7 @@ module _ {A : Type 0} (f : A → Machine → Run) where
 
   pub each-end : (l : List A) (i : ℕ) {w o w₁ o₁ : List ℕ} {p q : Progress} → i ≡ length l → Does (for-each f (take i l)) w o p q w₁ o₁ → Does (for-each f l) w o p q w₁ o₁
   each-end l i e D =
-      let t : take i l ≡ l = ap (λ (k : ℕ). take k l) e ∙ ap (take (length l)) (sym (append-nil l)) ∙ take-at l [] (length l) refl in
+      let t : take i l ≡ l = ap (λ (k : ℕ). take k l) e ∙ take-whole l in
       runs.is (for-each f l) (λ m. ap (λ (x : List A). for-each f x m) t) D
 
 -- what is done depends on a value of the state

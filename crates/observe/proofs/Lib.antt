@@ -6,3 +6,7 @@ pub mod Reading
 pub mod Observing
 -- Names and events that stand in bytes.
 pub mod Parts
+-- The answer to a Refresh.
+pub mod Refreshing
+-- What is forgotten.
+pub mod Forgetting

@@ -1,41 +1,32 @@
 -- `put_record` and `observe`. Assumes nothing.
-use Prim.Native.Nat.{ℕ, zero, suc, _+_, _-_, _*_, _≤_, _<_, _^_}
+use Prim.Native.Nat.{ℕ, _+_, _≤_}
 use native.Mathlib.Omega.{arith}
-use mathlib.Core.Path.{_≡_, refl, sym, ap, ap₂, _∙_, subst}
-use mathlib.Core.List.{List, [], _∷_, _++_, append-nil, append-assoc}
+use mathlib.Core.Path.{_≡_, refl, sym, ap, _∙_, subst}
+use mathlib.Core.List.{List, [], append-nil}
 use mathlib.Core.Option.{Option, none, some}
 use mathlib.Core.Bool.{Bool, true, false}
-use lib.ListN.{length, take, drop, getD, length-append, length-take, length-drop, length-replicate}
+use lib.ListN.{length}
 use lib.Dec.{leb}
-use Rattle.format.specs.Format.{Format, Lawful, Got, option, via, _⊗_, enum, _∣_}
-use Rattle.format.specs.Format.{text as text-format}
-use Rattle.spans.specs.Bytes.{zeros}
-use Rattle.tables.specs.Table.{text}
 use Rattle.tables.specs.declared.Place.{Place}
 use Rattle.tables.specs.declared.Place.the-variants.{Found, Missing}
 use Rattle.model.specs.Event.{Text, ProviderEvent}
 use Rattle.model.specs.Seam.{ResourceId, resource-of}
 use Rattle.model.specs.State.{Pass, SyncState}
-use Rattle.model.specs.Limits.{Limits, document01, max-id}
-use Rattle.model.specs.Maps.{if_then_else_, by-name, get, insert, remove, delete, is-some}
-use Rattle.model.specs.Formats.{resourceId, shortText, idsF, eventF}
-use Rattle.model.specs.Machine.{Machine, Run, refused, ok, _>>=_, match_none:_some:_, within, with-state, change-pass, set-pass, set-records, with-staged, with-seen, unstage, unsee, see, watch}
-use Rattle.model.specs.Sync.{replaces, learn, pass-done, put-record, remove-record, observe-event, observe-none, observe}
-use Rattle.state.specs.Layout.{padded, field, name-slot, pass-of}
+use Rattle.model.specs.Limits.{document01}
+use Rattle.model.specs.Maps.{if_then_else_, by-name, insert, remove, delete, is-some}
+use Rattle.model.specs.Formats.{eventF}
+use Rattle.model.specs.Machine.{Machine, Run, ok, _>>=_, match_none:_some:_, within, with-state, change-pass, set-pass, set-records, with-staged, with-seen, unstage, unsee, see, watch}
+use Rattle.model.specs.Sync.{replaces, learn, put-record, remove-record, observe-event, observe-none, observe}
+use Rattle.state.specs.Layout.{pass-of}
 use Rattle.state.specs.Setters.{with-records, with-pass, pass-changed}
 use Rattle.state.specs.Contract.{state-length, Keeps, HasState, Reads, Edits, Tries}
-use Rattle.state.specs.Values.{name-of, Named}
-use Rattle.state.proofs.Widths.{event-within}
-use Rattle.state.proofs.Padded.{length-field}
-use Rattle.state.proofs.Ops as ops
 use Rattle.staged.specs.Staging.{without-stage}
 use Rattle.staged.proofs.Bridge.{pass-done-is}
 use Rattle.records.specs.Events.{IsEvent, RecordAt, RecordIs, FindsRecord}
-use Rattle.records.proofs.Laws as records
 use Rattle.versions.specs.Versions.{Stands, HasEvent, VersionOf}
 use Rattle.versions.proofs.Laws as versions
 use Rattle.machine.specs.declared.Progress.{Progress}
-use Rattle.machine.specs.Contract.{Does, Changes}
+use Rattle.machine.specs.Contract.{Changes}
 use Rattle.machine.specs.Steps.{tried-by}
 use Rattle.machine.proofs.Runs as runs
 use Rattle.machine.proofs.Steps as steps

@@ -1,12 +1,12 @@
 -- Names and events that stand in bytes: what the functions that take them out answer. Assumes nothing.
-use Prim.Native.Nat.{ℕ, suc, _+_, _-_, _≤_, _<_}
+use Prim.Native.Nat.{ℕ, suc, _+_, _-_, _≤_}
 use native.Mathlib.Omega.{arith}
-use mathlib.Core.Path.{_≡_, refl, sym, ap, ap₂, _∙_, subst}
-use mathlib.Core.List.{List, [], _∷_, _++_, append-nil, append-assoc}
+use mathlib.Core.Path.{_≡_, refl, sym, ap, _∙_, subst}
+use mathlib.Core.List.{List, [], _∷_, _++_, append-assoc}
 use mathlib.Core.Option.{Option, none, some, Option·some-injective, Option·none-ne-some}
-use mathlib.Core.Bool.{Bool, true, false}
-use lib.ListN.{length, take, drop, length-take, length-drop}
-use Rattle.format.specs.Format.{Got, Format, option, via, _⊗_, enum, _∣_, below}
+use mathlib.Core.Bool.{Bool, true}
+use lib.ListN.{length, take, drop, length-take}
+use Rattle.format.specs.Format.{Got, option, via, _⊗_, enum, _∣_, below}
 use Rattle.format.specs.Format.{text as text-format}
 use Rattle.spans.specs.Bytes.{zeros}
 use Rattle.model.specs.Event.{Text, ProviderEvent}
@@ -14,17 +14,16 @@ use Rattle.model.specs.Seam.{ResourceId, resource-of}
 use Rattle.model.specs.Limits.{max-id}
 use Rattle.model.specs.Formats.{resourceId, eventId, shortText, u32, tag, providerF, idsF, fieldsF, eventF}
 use Rattle.model.proofs.FormatsLaws.{resourceId-law}
-use Rattle.model.specs.Machine.{Machine, Run}
 use Rattle.model.specs.Sync.{observe}
-use Rattle.frame.specs.Read.{stepped, gotAt, skips, valueOf, valueAt, kept, valueIn, readAt, Means}
-use Rattle.frame.specs.Meaning.{noEvent, standsAt, resourceAt, eventAt, optionEventAt}
+use Rattle.frame.specs.Read.{stepped, skips, valueOf, valueAt, kept, valueIn, readAt, Means}
+use Rattle.frame.specs.Meaning.{noEvent, resourceAt, eventAt, optionEventAt}
 use Rattle.frame.specs.declared.Cursor.{Cursor}
 use Rattle.frame.proofs.Stood as stood
 use Rattle.frame.proofs.Spans.{span}
 use Rattle.values.specs.Parts.{meantListed}
 use Rattle.values.specs.declared.Listed.{Listed}
 use Rattle.values.specs.declared.Listed.the-variants.{Nothing, Event}
-use Rattle.state.specs.Layout.{padded, name-slot}
+use Rattle.state.specs.Layout.{padded}
 use Rattle.state.specs.Values.{name-of, Named}
 use Rattle.state.proofs.Ops as ops
 use Rattle.records.specs.Events.{IsEvent}

@@ -1,13 +1,11 @@
 -- The open pass, and the names to be read. Assumes nothing.
-use Prim.Native.Nat.{ℕ, zero, suc, _+_, _-_, _*_, _≤_, _<_}
-use native.Mathlib.Nat.{not-suc-le-zero, le-of-suc-le-suc}
+use Prim.Native.Nat.{ℕ, suc, _+_, _*_, _≤_, _<_}
 use native.Mathlib.Omega.{arith}
 use mathlib.Core.Path.{_≡_, refl, sym, ap, ap₂, _∙_, subst}
 use mathlib.Core.List.{List, [], _∷_, _++_, append-nil}
 use mathlib.Core.Option.{Option, none, some}
 use mathlib.Core.Bool.{Bool, true, false, not, _&&_, _||_}
 use lib.ListN.{length, take, drop, getD, length-replicate}
-use lib.Seq.{take-at}
 use lib.Dec.{leb}
 use Rattle.spans.specs.Bytes.{zeros}
 use Rattle.model.specs.Event.{Text}
@@ -15,14 +13,14 @@ use Rattle.model.specs.Seam.{ResourceId, Request}
 use Rattle.model.specs.State.{Map, Staged, Pass, Purpose, SyncState}
 use Rattle.model.specs.Limits.{Limits, document01}
 use Rattle.model.specs.Maps.{if_then_else_, by-name, any, filter, map, keys, values, retain, insert, add, is-some}
-use Rattle.model.specs.Formats.{resourceId, same}
+use Rattle.model.specs.Formats.{same}
 use Rattle.model.specs.SavedForm.{purposeF}
 use Rattle.model.specs.Machine.{Machine, Run, refused, ok, _>>=_, for-each, match_none:_some:_, within, request, with-state, in-pass, change-pass, set-pass, with-staged, with-seen, with-observed, stage, see, watch}
 use Rattle.model.specs.Sync.{is-unread, pass-reads, refreshes, in-flight-any, unread, read-unread, learn, doubt-in-pass, doubt}
 use Rattle.state.specs.Layout.{padded, name-slot, pass-of, no-pass}
 use Rattle.state.specs.Setters.{with-pass, pass-changed}
-use Rattle.state.specs.Contract.{state-length, Keeps, HasState, Reads, Edits, Tries}
-use Rattle.state.specs.Values.{name-of, Named, purpose-of}
+use Rattle.state.specs.Contract.{Keeps, HasState, Reads, Tries}
+use Rattle.state.specs.Values.{name-of, Named}
 use Rattle.state.proofs.Padded.{text-name-only}
 use Rattle.state.proofs.Columns as columns
 use Rattle.state.proofs.Bridge as bridge
@@ -35,7 +33,7 @@ use Rattle.flights.specs.Asked.{Listed, Lists}
 use Rattle.flights.proofs.Listing as listing
 use Rattle.tables.specs.Table.{text}
 use Rattle.machine.specs.declared.Progress.{Progress}
-use Rattle.machine.specs.Contract.{Holds, Ran, Does, Changes}
+use Rattle.machine.specs.Contract.{Does, Changes}
 use Rattle.machine.specs.Steps.{tried-by}
 use Rattle.machine.proofs.Runs as runs
 use Rattle.machine.proofs.Steps as steps
@@ -81,11 +79,6 @@ watched-tries p r T = steps.tries (watch r) p T (λ m l h. watch-is r m l)
 
 -- ---- the names to be read: one entry more
 
-take-more : {A : Type 0} (d : A) (i : ℕ) (m : List A) → i < length m → take (suc i) m ≡ take i m ++ (getD m i d ∷ [])
-take-more d i [] l = absurd (not-suc-le-zero l)
-take-more d zero (e ∷ m) l = refl
-take-more {A} d (suc i) (e ∷ m) l = ap (λ (x : List A). e ∷ x) (take-more d i m (le-of-suc-le-suc l))
-
 keys-append : (a b : Map ResourceId Staged) → keys (a ++ b) ≡ keys a ++ keys b
 unfolding keys map
 keys-append [] b = refl
@@ -112,7 +105,7 @@ one-key f e false z = ap (λ (x : Bool). keys (if x then e ∷ [] else [])) z
 more : (i : ℕ) (s : SyncState) (b : Bool) → i < length (staged-of s) → to-read s (staged-at i s) ≡ b → unread-of (i + 1) s ≡ unread-of i s ++ last-of b (staged-at i s .0)
 more i s b l z =
     let n : i + 1 ≡ suc i = omega arith in
-    ap (λ (k : ℕ). unread-of k s) n ∙ ap (λ (x : Map ResourceId Staged). keys (filter (to-read s) x)) (take-more ([], Staged.Unread) i (staged-of s) l)
+    ap (λ (k : ℕ). unread-of k s) n ∙ ap (λ (x : Map ResourceId Staged). keys (filter (to-read s) x)) (each.take-more ([], Staged.Unread) i (staged-of s) l)
     ∙ ap keys (filter-append (to-read s) (take i (staged-of s)) (staged-at i s ∷ [])) ∙ keys-append (filter (to-read s) (take i (staged-of s))) (filter (to-read s) (staged-at i s ∷ []))
     ∙ ap (λ (x : List Text). unread-of i s ++ x) (one-key (to-read s) (staged-at i s) b z)
 
@@ -214,14 +207,11 @@ noted-all w b i n p q N =
     let e : i ≡ getD w 9221 0 = omega arith in
     subst (λ (x : ℕ). Noted x n w b) e N
 
-take-whole : {A : Type 0} (m : List A) → take (length m) m ≡ m
-take-whole m = ap (take (length m)) (sym (append-nil m)) ∙ take-at m [] (length m) refl
-
 pub noted-end : (w b : List ℕ) (n : ℕ) → Noted (getD w 9221 0) n w b → Lists all-unread w n b
 noted-end w b n N = record {
   is = λ s h.
       let c = columns.counted staged.staged-column s w h in
-      let t : take (getD w 9221 0) (staged-of s) ≡ staged-of s = ap (λ (k : ℕ). take k (staged-of s)) c ∙ take-whole (staged-of s) in
+      let t : take (getD w 9221 0) (staged-of s) ≡ staged-of s = ap (λ (k : ℕ). take k (staged-of s)) c ∙ each.take-whole (staged-of s) in
       subst (λ (x : Map ResourceId Staged). Listed (keys (filter (to-read s) x)) n b) t (N .is s h);
 }
 

@@ -2,3 +2,5 @@
 pub mod Reading
 -- What is observed of a resource.
 pub mod Observing
+-- What is forgotten at the end of a step.
+pub mod Forgetting

@@ -1,10 +1,13 @@
 // What is learned of a resource: doubt, observations, and what is forgotten again.
 use flights::NameList;
 use frame::Cursor;
+use frame::Failure;
+use frame::Outcome;
 use machine::Progress;
 use names::Name;
 use staged::StagedKind;
 use state::Kind;
+use state::Numbered;
 use tables::Place;
 use values::Listed;
 use versions::Version;
@@ -19,18 +22,28 @@ ghost use Rattle.model.specs.Event.{Text, ProviderEvent};
 ghost use Rattle.model.specs.Seam.{resource-of};
 ghost use Rattle.model.specs.State.{Staged};
 ghost use Rattle.model.specs.Machine.{for-each, in-pass, stage, see, watch};
-ghost use Rattle.model.specs.Sync.{read-unread, doubt-in-pass, doubt, put-record, observe-event, observe-none, observe};
-ghost use Rattle.model.specs.Formats.{resourceId, eventF};
-ghost use Rattle.frame.specs.Meaning.{eventAt, optionEventAt};
+ghost use Rattle.model.specs.Sync.{read-unread, doubt-in-pass, doubt, put-record, observe-event, observe-none, observe, Answer, answer-failed, refresh-answered, on-refresh};
+ghost use Rattle.model.specs.Maps.{by-name, get, is-some};
+ghost use Rattle.model.specs.Formats.{resourceId, eventF, outcomeF};
+ghost use Rattle.frame.specs.Meaning.{eventAt, optionEventAt, meantFailure, meantOutcome};
 ghost use Rattle.state.specs.Layout.{field};
-ghost use Rattle.state.specs.Contract.{HasState, Reads};
+ghost use Rattle.state.specs.Contract.{HasState, Reads, Edits};
 ghost use Rattle.state.specs.Values.{name-of, Named};
 ghost use Rattle.flights.specs.Asked.{Listed as ListedNames, Lists};
+ghost use Rattle.staged.specs.Staging.{staged-of};
 ghost use Rattle.records.specs.Events.{IsEvent};
 ghost use Rattle.versions.specs.Versions.{HasEvent, VersionOf};
 ghost use Rattle.machine.specs.Contract.{Does, Changes};
 ghost use Rattle.observe.specs.Reading.{Noted, HasList, all-unread, read-for-pass};
 ghost use Rattle.observe.specs.Observing.{gives-way, see-or-watch, watch-unless-done};
+ghost use Rattle.observe.specs.Forgetting.{settled-before, settled, held-in-pass, held-in, with-held-aliases, Tested};
+
+// The staged entries' region of the work buffer.
+const STAGED: usize = 9221;
+
+const STAGED_SIZE: usize = 9161;
+
+const STAGED_SLOT: usize = 916;
 
 // ---- the open pass
 
@@ -97,7 +110,7 @@ fn note_all(work: &[u8], names: &mut [u8]) -> usize
     requires { ⌜ now names ≡ zeros 792 ⌝ }
     ensures { λ r. ⌜ Noted (getD (now (work .entry)) 9221 0) r (now (work .entry)) (now (names .exit)) ⌝ }
 {
-    let total = work[9221] as usize;
+    let total = work[STAGED] as usize;
     let mut i = 0;
     let mut n = 0;
     while i < total {
@@ -117,13 +130,7 @@ fn unread(work: &[u8]) -> NameList
     NameList { count, bytes }
 }
 
-fn read_each(
-    work: &mut [u8],
-    out: &mut [u8],
-    p: Progress,
-    names: &[u8],
-    count: usize,
-) -> Progress
+fn read_each(work: &mut [u8], out: &mut [u8], p: Progress, names: &[u8], count: usize) -> Progress
     requires { ⌜ HasState (now work) ⌝ }
     requires { ⌜ HasList count (now names) ⌝ }
     ensures { λ r. ⌜ ((l : Vec Text) → ListedNames l count (now (names .entry)) → Does (for-each read-for-pass l) (now (work .entry)) (now (out .entry)) p r (now (work .exit)) (now (out .exit))) ⌝ }
@@ -335,7 +342,13 @@ pub fn observe_at(work: &mut [u8], p: Progress, resource: Name, frame: &[u8], at
 }
 
 // observe, of what a read found: the event, or none, at a place of the frame
-pub fn observe_read(work: &mut [u8], p: Progress, resource: Name, frame: &[u8], at: usize) -> Progress
+pub fn observe_read(
+    work: &mut [u8],
+    p: Progress,
+    resource: Name,
+    frame: &[u8],
+    at: usize,
+) -> Progress
     requires { ⌜ HasState (now work) ⌝ }
     requires { ⌜ (Named (resource .bytes)) × (option eventF .Ok (optionEventAt (now frame) at)) ⌝ }
     ensures { λ r. ⌜ Changes (observe (name-of (resource .bytes)) (optionEventAt (now (frame .entry)) at)) (now (work .entry)) p r (now (work .exit)) ⌝ }
@@ -349,5 +362,223 @@ pub fn observe_read(work: &mut [u8], p: Progress, resource: Name, frame: &[u8], 
         Listed::Event(place) => {
             return observe_at(work, p, resource, frame, place);
         }
+    }
+}
+
+// ---- SyncState::on_refresh
+
+fn refresh_read(
+    work: &mut [u8],
+    out: &mut [u8],
+    p: Progress,
+    frame: &[u8],
+    id: u64,
+    name: Name,
+    at: usize,
+) -> Progress
+    requires { ⌜ HasState (now work) ⌝ }
+    requires { ⌜ (Named (name .bytes)) × (option eventF .Ok (optionEventAt (now frame) at)) ⌝ }
+    ensures { λ r. ⌜ Does (refresh-answered id (name-of (name .bytes)) (Answer.Found (optionEventAt (now (frame .entry)) at))) (now (work .entry)) (now (out .entry)) p r (now (work .exit)) (now (out .exit)) ⌝ }
+{
+    if machine::doubtful(work, id, name) {
+        return doubt(work, out, p, name);
+    }
+    observe_read(work, p, name, frame, at)
+}
+
+fn refresh_gone(work: &mut [u8], out: &mut [u8], p: Progress, id: u64, name: Name) -> Progress
+    requires { ⌜ HasState (now work) ⌝ }
+    requires { ⌜ Named (name .bytes) ⌝ }
+    ensures { λ r. ⌜ Does (refresh-answered id (name-of (name .bytes)) (Answer.Found none)) (now (work .entry)) (now (out .entry)) p r (now (work .exit)) (now (out .exit)) ⌝ }
+{
+    if machine::doubtful(work, id, name) {
+        return doubt(work, out, p, name);
+    }
+    observe_gone(work, p, name)
+}
+
+fn refresh_failed(
+    work: &mut [u8],
+    out: &mut [u8],
+    p: Progress,
+    frame: &[u8],
+    id: u64,
+    name: Name,
+    failure: Failure,
+) -> Progress
+    requires { ⌜ HasState (now work) ⌝ }
+    requires { ⌜ Named (name .bytes) ⌝ }
+    ensures { λ r. ⌜ Does (refresh-answered id (name-of (name .bytes)) (answer-failed (meantFailure (now (frame .entry)) failure))) (now (work .entry)) (now (out .entry)) p r (now (work .exit)) (now (out .exit)) ⌝ }
+{
+    match failure {
+        Failure::CursorExpired => {
+            return p;
+        }
+        Failure::PreconditionFailed => {
+            return p;
+        }
+        Failure::NotFound => {
+            return refresh_gone(work, out, p, id, name);
+        }
+        Failure::AlreadyExists => {
+            return p;
+        }
+        Failure::Transient => {
+            return doubt(work, out, p, name);
+        }
+        Failure::Rejected(why) => {
+            return p;
+        }
+    }
+}
+
+pub fn on_refresh(
+    work: &mut [u8],
+    out: &mut [u8],
+    p: Progress,
+    frame: &[u8],
+    id: u64,
+    name: Name,
+    outcome: Outcome,
+) -> Progress
+    requires { ⌜ HasState (now work) ⌝ }
+    requires { ⌜ (Named (name .bytes)) × (outcomeF .Ok (meantOutcome (now frame) outcome)) ⌝ }
+    ensures { λ r. ⌜ Does (on-refresh id (name-of (name .bytes)) (meantOutcome (now (frame .entry)) outcome)) (now (work .entry)) (now (out .entry)) p r (now (work .exit)) (now (out .exit)) ⌝ }
+{
+    match outcome {
+        Outcome::Listed(page) => {
+            return p;
+        }
+        Outcome::Read(event) => {
+            return refresh_read(work, out, p, frame, id, name, event);
+        }
+        Outcome::Written(event) => {
+            return p;
+        }
+        Outcome::Deleted => {
+            return p;
+        }
+        Outcome::Failed(failure) => {
+            return refresh_failed(work, out, p, frame, id, name, failure);
+        }
+    }
+}
+
+// ---- SyncState::forget_settled
+
+fn forget_before(work: &mut [u8], oldest: u64)
+    requires { ⌜ HasState (now work) ⌝ }
+    ensures { λ _. ⌜ Edits (settled-before oldest) (now (work .entry)) (now (work .exit)) ⌝ }
+{
+    state::retain_learned(work, oldest);
+    if oldest < state::learned_all(work) {
+        return;
+    }
+    state::set_learned_all(work, 0);
+}
+
+pub fn forget_settled(work: &mut [u8])
+    requires { ⌜ HasState (now work) ⌝ }
+    ensures { λ _. ⌜ Edits settled (now (work .entry)) (now (work .exit)) ⌝ }
+{
+    let oldest = state::first_in_flight(work);
+    match oldest {
+        Numbered::Nothing => {
+            state::clear_learned(work);
+            state::set_learned_all(work, 0);
+        }
+        Numbered::Is(n) => {
+            forget_before(work, n);
+        }
+    }
+}
+
+// ---- SyncState::forget_aliases
+
+fn has_record(work: &[u8], name: Name) -> bool
+    requires { ⌜ HasState (now work) ⌝ }
+    requires { ⌜ Named (name .bytes) ⌝ }
+    ensures { λ r. ⌜ Reads (λ s. is-some (get by-name (name-of (name .bytes)) (s .records))) (now (work .entry)) r ⌝ }
+{
+    let place = records::find_record(work, name);
+    match place {
+        Place::Found(at) => {
+            return true;
+        }
+        Place::Missing(at) => {
+            return false;
+        }
+    }
+}
+
+fn is_staged(work: &[u8], name: Name) -> bool
+    requires { ⌜ HasState (now work) ⌝ }
+    requires { ⌜ Named (name .bytes) ⌝ }
+    ensures { λ r. ⌜ Reads (λ s. is-some (get by-name (name-of (name .bytes)) (staged-of s))) (now (work .entry)) r ⌝ }
+{
+    let key = name.bytes;
+    let place = lent::find_in(work, STAGED, STAGED_SIZE, STAGED_SLOT, &key);
+    match place {
+        Place::Found(at) => {
+            return true;
+        }
+        Place::Missing(at) => {
+            return false;
+        }
+    }
+}
+
+fn in_pass(work: &[u8], name: Name) -> bool
+    requires { ⌜ HasState (now work) ⌝ }
+    requires { ⌜ Named (name .bytes) ⌝ }
+    ensures { λ r. ⌜ Reads (held-in-pass (name-of (name .bytes))) (now (work .entry)) r ⌝ }
+{
+    if is_staged(work, name) {
+        return true;
+    }
+    pass_tables::has_observed(work, name)
+}
+
+fn held_anywhere(work: &[u8], name: Name) -> bool
+    requires { ⌜ HasState (now work) ⌝ }
+    requires { ⌜ Named (name .bytes) ⌝ }
+    ensures { λ r. ⌜ Reads (held-in (name-of (name .bytes))) (now (work .entry)) r ⌝ }
+{
+    if has_record(work, name) {
+        return true;
+    }
+    if waiting::waiting_count(work, name) != 0 {
+        return true;
+    }
+    if flights::asks_about(work, name) {
+        return true;
+    }
+    in_pass(work, name)
+}
+
+// Takes alias i out unless what it stands for is held; where the next one stands.
+fn forget_alias(work: &mut [u8], i: usize) -> usize
+    requires { ⌜ HasState (now work) ⌝ }
+    requires { ⌜ i < getD (now work) 58014 0 ⌝ }
+    ensures { λ r. ⌜ Tested i (now (work .entry)) r (now (work .exit)) ⌝ }
+{
+    let to = state::alias_to(work, i);
+    if held_anywhere(work, to) {
+        return i + 1;
+    }
+    let from = state::alias_from(work, i);
+    state::remove_alias(work, from);
+    i
+}
+
+pub fn forget_aliases(work: &mut [u8])
+    requires { ⌜ HasState (now work) ⌝ }
+    ensures { λ _. ⌜ Edits with-held-aliases (now (work .entry)) (now (work .exit)) ⌝ }
+{
+    let mut left = state::alias_count(work);
+    let mut i = 0;
+    while 0 < left {
+        i = forget_alias(work, i);
+        left -= 1;
     }
 }

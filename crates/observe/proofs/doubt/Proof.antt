@@ -1,15 +1,7 @@
 use Rattle.observe.proofs.Reading as reading
-use native.Mathlib.Omega.{arith}
 use borrow.Author.Needs.{needs}
 use Rattle.observe.proofs.doubt.Statement.{statement}
 use Rattle.observe.proofs.doubt.Tie as tie
-use Rattle.observe.proofs.doubt.Reads as reads
-use Rattle.observe.proofs.doubt.Lts as lts
-use Rattle.machine.proofs.learn.Reads as learn-reads
-use Rattle.machine.proofs.request_read.Reads as request-read-reads
-use Rattle.observe.proofs.doubt_in_pass.Reads as doubt-in-pass-reads
-use Rattle.pass_tables.proofs.is_open.Reads as is-open-reads
-use Rattle.state.proofs.asks.Reads as asks-reads
 
 learn-requires : tie.Need-learn-requires
 learn-requires c κs = search needs

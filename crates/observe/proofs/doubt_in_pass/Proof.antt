@@ -1,14 +1,7 @@
 use Rattle.observe.proofs.Reading as reading
-use native.Mathlib.Omega.{arith}
 use borrow.Author.Needs.{needs}
 use Rattle.observe.proofs.doubt_in_pass.Statement.{statement}
 use Rattle.observe.proofs.doubt_in_pass.Tie as tie
-use Rattle.observe.proofs.doubt_in_pass.Reads as reads
-use Rattle.observe.proofs.doubt_in_pass.Lts as lts
-use Rattle.observe.proofs.read_unread.Reads as read-unread-reads
-use Rattle.observe.proofs.stage_unread.Reads as stage-unread-reads
-use Rattle.observe.proofs.watch.Reads as watch-reads
-use Rattle.pass_header.proofs.is_done.Reads as is-done-reads
 
 is-done-requires : tie.Need-is-done-requires
 is-done-requires c κs = search needs

@@ -1,12 +1,7 @@
-use Rattle.observe.proofs.Observing as observing
 use Rattle.observe.proofs.Parts as parts
-use native.Mathlib.Omega.{arith}
 use borrow.Author.Needs.{needs}
 use Rattle.observe.proofs.event_part.Statement.{statement}
 use Rattle.observe.proofs.event_part.Tie as tie
-use Rattle.observe.proofs.event_part.Reads as reads
-use Rattle.observe.proofs.event_part.Lts as lts
-use Rattle.frame.proofs.Cursor.event.Reads as event-reads
 
 event-requires : tie.Need-event-requires
 event-requires c κs = search needs

@@ -1,12 +1,8 @@
-use Rattle.observe.proofs.Observing as observing
 use Rattle.observe.proofs.Parts as parts
 use native.Mathlib.Omega.{arith}
 use borrow.Author.Needs.{needs}
 use Rattle.observe.proofs.name_from.Statement.{statement}
 use Rattle.observe.proofs.name_from.Tie as tie
-use Rattle.observe.proofs.name_from.Reads as reads
-use Rattle.observe.proofs.name_from.Lts as lts
-use Rattle.tables.proofs.put_slot.Reads as put-slot-reads
 
 cast-n : tie.Need-cast-n
 cast-n c =

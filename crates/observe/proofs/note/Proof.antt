@@ -3,12 +3,6 @@ use native.Mathlib.Omega.{arith}
 use borrow.Author.Needs.{needs}
 use Rattle.observe.proofs.note.Statement.{statement}
 use Rattle.observe.proofs.note.Tie as tie
-use Rattle.observe.proofs.note.Reads as reads
-use Rattle.observe.proofs.note.Lts as lts
-use Rattle.staged.proofs.staged_kind.Reads as staged-kind-reads
-use Rattle.staged.proofs.staged_name.Reads as staged-name-reads
-use Rattle.state.proofs.asks.Reads as asks-reads
-use Rattle.tables.proofs.put_slot.Reads as put-slot-reads
 
 staged-kind-requires : tie.Need-staged-kind-requires
 staged-kind-requires c κs = search needs

@@ -8,9 +8,6 @@ use native.Mathlib.Omega.{arith}
 use borrow.Author.Needs.{needs}
 use Rattle.observe.proofs.note_all.Statement.{statement}
 use Rattle.observe.proofs.note_all.Tie as tie
-use Rattle.observe.proofs.note_all.Reads as reads
-use Rattle.observe.proofs.note_all.Lts as lts
-use Rattle.observe.proofs.note.Reads as note-reads
 
 abbrev Inv-loop : tie.InvT-loop
 Inv-loop work names₀ total i₀ n₀ names i n = (total ≡ getD work 9221 0) × (i ≤ total) × Noted i n work names

@@ -1,12 +1,6 @@
-use Rattle.observe.proofs.Observing as observing
-use native.Mathlib.Omega.{arith}
 use borrow.Author.Needs.{needs}
 use Rattle.observe.proofs.observe_at.Statement.{statement}
 use Rattle.observe.proofs.observe_at.Tie as tie
-use Rattle.observe.proofs.observe_at.Reads as reads
-use Rattle.observe.proofs.observe_at.Lts as lts
-use Rattle.observe.proofs.event_part.Reads as event-part-reads
-use Rattle.observe.proofs.observe_some.Reads as observe-some-reads
 
 event-part-requires : tie.Need-event-part-requires
 event-part-requires c κs = search needs

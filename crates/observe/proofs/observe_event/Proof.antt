@@ -1,16 +1,8 @@
 use Rattle.observe.proofs.Observing as observing
 use Rattle.machine.proofs.Runs as runs
-use native.Mathlib.Omega.{arith}
 use borrow.Author.Needs.{needs}
 use Rattle.observe.proofs.observe_event.Statement.{statement}
 use Rattle.observe.proofs.observe_event.Tie as tie
-use Rattle.observe.proofs.observe_event.Reads as reads
-use Rattle.observe.proofs.observe_event.Lts as lts
-use Rattle.machine.proofs.learn.Reads as learn-reads
-use Rattle.observe.proofs.put_record.Reads as put-record-reads
-use Rattle.observe.proofs.resource_of.Reads as resource-of-reads
-use Rattle.observe.proofs.see_or_watch.Reads as see-or-watch-reads
-use Rattle.staged.proofs.unstage.Reads as unstage-reads
 
 resource-of-requires : tie.Need-resource-of-requires
 resource-of-requires c κs = search needs

@@ -1,12 +1,7 @@
 use Rattle.observe.proofs.Observing as observing
-use native.Mathlib.Omega.{arith}
 use borrow.Author.Needs.{needs}
 use Rattle.observe.proofs.observe_gone.Statement.{statement}
 use Rattle.observe.proofs.observe_gone.Tie as tie
-use Rattle.observe.proofs.observe_gone.Reads as reads
-use Rattle.observe.proofs.observe_gone.Lts as lts
-use Rattle.machine.proofs.learn.Reads as learn-reads
-use Rattle.observe.proofs.observe_none.Reads as observe-none-reads
 
 learn-requires : tie.Need-learn-requires
 learn-requires c κs = search needs

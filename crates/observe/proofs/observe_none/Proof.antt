@@ -1,15 +1,8 @@
 use Rattle.observe.proofs.Observing as observing
 use Rattle.machine.proofs.Runs as runs
-use native.Mathlib.Omega.{arith}
 use borrow.Author.Needs.{needs}
 use Rattle.observe.proofs.observe_none.Statement.{statement}
 use Rattle.observe.proofs.observe_none.Tie as tie
-use Rattle.observe.proofs.observe_none.Reads as reads
-use Rattle.observe.proofs.observe_none.Lts as lts
-use Rattle.observe.proofs.watch_unless_done.Reads as watch-unless-done-reads
-use Rattle.pass_tables.proofs.remove_seen.Reads as remove-seen-reads
-use Rattle.records.proofs.remove_record.Reads as remove-record-reads
-use Rattle.staged.proofs.unstage.Reads as unstage-reads
 
 unstage-requires : tie.Need-unstage-requires
 unstage-requires c κs = search needs

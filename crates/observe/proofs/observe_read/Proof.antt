@@ -1,14 +1,7 @@
-use Rattle.observe.proofs.Observing as observing
 use Rattle.observe.proofs.Parts as parts
-use native.Mathlib.Omega.{arith}
 use borrow.Author.Needs.{needs}
 use Rattle.observe.proofs.observe_read.Statement.{statement}
 use Rattle.observe.proofs.observe_read.Tie as tie
-use Rattle.observe.proofs.observe_read.Reads as reads
-use Rattle.observe.proofs.observe_read.Lts as lts
-use Rattle.observe.proofs.observe_at.Reads as observe-at-reads
-use Rattle.observe.proofs.observe_gone.Reads as observe-gone-reads
-use Rattle.values.proofs.read_option_event.Reads as read-option-event-reads
 
 read-option-event-requires : tie.Need-read-option-event-requires
 read-option-event-requires c κs = search needs

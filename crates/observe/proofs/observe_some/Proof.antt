@@ -1,12 +1,7 @@
 use Rattle.observe.proofs.Observing as observing
-use native.Mathlib.Omega.{arith}
 use borrow.Author.Needs.{needs}
 use Rattle.observe.proofs.observe_some.Statement.{statement}
 use Rattle.observe.proofs.observe_some.Tie as tie
-use Rattle.observe.proofs.observe_some.Reads as reads
-use Rattle.observe.proofs.observe_some.Lts as lts
-use Rattle.machine.proofs.learn.Reads as learn-reads
-use Rattle.observe.proofs.observe_event.Reads as observe-event-reads
 
 learn-requires : tie.Need-learn-requires
 learn-requires c κs = search needs

@@ -1,14 +1,7 @@
 use Rattle.observe.proofs.Observing as observing
-use native.Mathlib.Omega.{arith}
 use borrow.Author.Needs.{needs}
 use Rattle.observe.proofs.put_record.Statement.{statement}
 use Rattle.observe.proofs.put_record.Tie as tie
-use Rattle.observe.proofs.put_record.Reads as reads
-use Rattle.observe.proofs.put_record.Lts as lts
-use Rattle.machine.proofs.tried.Reads as tried-reads
-use Rattle.observe.proofs.replaces.Reads as replaces-reads
-use Rattle.records.proofs.put_record.Reads as put-record-reads
-use Rattle.versions.proofs.version_at.Reads as version-at-reads
 
 version-at-requires : tie.Need-version-at-requires
 version-at-requires c κs = observing.has-alone _ (c .before .before .pre .1 .1)

@@ -1,15 +1,8 @@
 use Rattle.observe.proofs.Observing as observing
 use Rattle.versions.proofs.Laws as versions
-use native.Mathlib.Omega.{arith}
 use borrow.Author.Needs.{needs}
 use Rattle.observe.proofs.put_record_at.Statement.{statement}
 use Rattle.observe.proofs.put_record_at.Tie as tie
-use Rattle.observe.proofs.put_record_at.Reads as reads
-use Rattle.observe.proofs.put_record_at.Lts as lts
-use Rattle.machine.proofs.tried.Reads as tried-reads
-use Rattle.observe.proofs.replaces.Reads as replaces-reads
-use Rattle.records.proofs.put_record_at.Reads as put-record-at-reads
-use Rattle.versions.proofs.version_at.Reads as version-at-reads
 
 version-at-requires : tie.Need-version-at-requires
 version-at-requires c κs = search needs

@@ -1,5 +1,5 @@
-use Prim.Native.Nat.{_+_, _-_, _≤_}
-use mathlib.Core.Path.{_≡_, refl, _∙_}
+use Prim.Native.Nat.{_-_, _≤_}
+use mathlib.Core.Path.{_≡_, refl}
 use mathlib.Core.List.{List as Vec}
 use lib.ListN.{length, take}
 use Rattle.model.specs.Event.{Text}
@@ -14,10 +14,6 @@ use native.Mathlib.Omega.{arith}
 use borrow.Author.Needs.{needs}
 use Rattle.observe.proofs.read_each.Statement.{statement}
 use Rattle.observe.proofs.read_each.Tie as tie
-use Rattle.observe.proofs.read_each.Reads as reads
-use Rattle.observe.proofs.read_each.Lts as lts
-use Rattle.flights.proofs.listed_name.Reads as listed-name-reads
-use Rattle.machine.proofs.request_read.Reads as request-read-reads
 
 abbrev Inv-loop : tie.InvT-loop
 Inv-loop work₀ out₀ names count q₀ i₀ work out q i =

@@ -1,12 +1,7 @@
 use Rattle.observe.proofs.Reading as reading
-use native.Mathlib.Omega.{arith}
 use borrow.Author.Needs.{needs}
 use Rattle.observe.proofs.read_unread.Statement.{statement}
 use Rattle.observe.proofs.read_unread.Tie as tie
-use Rattle.observe.proofs.read_unread.Reads as reads
-use Rattle.observe.proofs.read_unread.Lts as lts
-use Rattle.observe.proofs.read_each.Reads as read-each-reads
-use Rattle.observe.proofs.unread.Reads as unread-reads
 
 unread-requires : tie.Need-unread-requires
 unread-requires c κs = search needs

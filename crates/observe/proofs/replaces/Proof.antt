@@ -3,11 +3,6 @@ use native.Mathlib.Omega.{arith}
 use borrow.Author.Needs.{needs}
 use Rattle.observe.proofs.replaces.Statement.{statement}
 use Rattle.observe.proofs.replaces.Tie as tie
-use Rattle.observe.proofs.replaces.Reads as reads
-use Rattle.observe.proofs.replaces.Lts as lts
-use Rattle.records.proofs.find_record.Reads as find-record-reads
-use Rattle.versions.proofs.takes_place.Reads as takes-place-reads
-use Rattle.versions.proofs.version_at.Reads as version-at-reads
 
 find-record-requires : tie.Need-find-record-requires
 find-record-requires c κs = search needs

@@ -1,13 +1,7 @@
-use Rattle.observe.proofs.Observing as observing
 use Rattle.observe.proofs.Parts as parts
-use native.Mathlib.Omega.{arith}
 use borrow.Author.Needs.{needs}
 use Rattle.observe.proofs.resource_of.Statement.{statement}
 use Rattle.observe.proofs.resource_of.Tie as tie
-use Rattle.observe.proofs.resource_of.Reads as reads
-use Rattle.observe.proofs.resource_of.Lts as lts
-use Rattle.frame.proofs.resource_at.Reads as resource-at-reads
-use Rattle.observe.proofs.name_from.Reads as name-from-reads
 
 resource-at-requires : tie.Need-resource-at-requires
 resource-at-requires c κs = search needs

@@ -1,13 +1,8 @@
 use Rattle.observe.proofs.Reading as reading
 use Rattle.machine.proofs.Steps as steps
-use native.Mathlib.Omega.{arith}
 use borrow.Author.Needs.{needs}
 use Rattle.observe.proofs.see.Statement.{statement}
 use Rattle.observe.proofs.see.Tie as tie
-use Rattle.observe.proofs.see.Reads as reads
-use Rattle.observe.proofs.see.Lts as lts
-use Rattle.machine.proofs.tried.Reads as tried-reads
-use Rattle.pass_tables.proofs.add_seen.Reads as add-seen-reads
 
 add-seen-requires : tie.Need-add-seen-requires
 add-seen-requires c κs = search needs

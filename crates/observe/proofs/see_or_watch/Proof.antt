@@ -1,13 +1,7 @@
 use Rattle.observe.proofs.Observing as observing
-use native.Mathlib.Omega.{arith}
 use borrow.Author.Needs.{needs}
 use Rattle.observe.proofs.see_or_watch.Statement.{statement}
 use Rattle.observe.proofs.see_or_watch.Tie as tie
-use Rattle.observe.proofs.see_or_watch.Reads as reads
-use Rattle.observe.proofs.see_or_watch.Lts as lts
-use Rattle.observe.proofs.see.Reads as see-reads
-use Rattle.observe.proofs.watch.Reads as watch-reads
-use Rattle.pass_header.proofs.is_done.Reads as is-done-reads
 
 is-done-requires : tie.Need-is-done-requires
 is-done-requires c κs = search needs

@@ -1,13 +1,8 @@
 use Rattle.observe.proofs.Reading as reading
 use Rattle.machine.proofs.Steps as steps
-use native.Mathlib.Omega.{arith}
 use borrow.Author.Needs.{needs}
 use Rattle.observe.proofs.stage_unread.Statement.{statement}
 use Rattle.observe.proofs.stage_unread.Tie as tie
-use Rattle.observe.proofs.stage_unread.Reads as reads
-use Rattle.observe.proofs.stage_unread.Lts as lts
-use Rattle.machine.proofs.tried.Reads as tried-reads
-use Rattle.staged.proofs.stage_unread.Reads as stage-unread-reads
 
 stage-unread-requires : tie.Need-stage-unread-requires
 stage-unread-requires c κs = search needs

@@ -1,11 +1,7 @@
 use Rattle.observe.proofs.Reading as reading
-use native.Mathlib.Omega.{arith}
 use borrow.Author.Needs.{needs}
 use Rattle.observe.proofs.unread.Statement.{statement}
 use Rattle.observe.proofs.unread.Tie as tie
-use Rattle.observe.proofs.unread.Reads as reads
-use Rattle.observe.proofs.unread.Lts as lts
-use Rattle.observe.proofs.note_all.Reads as note-all-reads
 
 slice-aggregate-note-all : tie.Need-slice-aggregate-note-all
 slice-aggregate-note-all c = search needs

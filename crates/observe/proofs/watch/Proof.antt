@@ -1,13 +1,8 @@
 use Rattle.observe.proofs.Reading as reading
 use Rattle.machine.proofs.Steps as steps
-use native.Mathlib.Omega.{arith}
 use borrow.Author.Needs.{needs}
 use Rattle.observe.proofs.watch.Statement.{statement}
 use Rattle.observe.proofs.watch.Tie as tie
-use Rattle.observe.proofs.watch.Reads as reads
-use Rattle.observe.proofs.watch.Lts as lts
-use Rattle.machine.proofs.tried.Reads as tried-reads
-use Rattle.pass_tables.proofs.add_observed.Reads as add-observed-reads
 
 add-observed-requires : tie.Need-add-observed-requires
 add-observed-requires c κs = search needs
