@@ -3,8 +3,7 @@ use Prim.Native.Nat.{ℕ}
 use mathlib.Core.Path.{_≡_, refl, sym, ap, _∙_, subst}
 use mathlib.Core.List.{List}
 use mathlib.Core.Option.{Option, none, some, Option·some-injective, Option·none-ne-some}
-use mathlib.Core.Bool.{Bool, true, false, _||_, true≢false, false≢true}
-use lib.Dec.{ltb}
+use mathlib.Core.Bool.{Bool, true, false, false≢true}
 use Rattle.format.specs.Format.{option, via, enum, _∣_, _⊗_}
 use Rattle.model.specs.Event.{ProviderEvent}
 use Rattle.model.specs.Seam.{RequestId, ResourceId, Next, Page, Failure, Outcome}
@@ -14,9 +13,8 @@ use Rattle.model.specs.Formats.{eventF, nextF, pageF, outcomeF}
 use Rattle.model.specs.Machine.{Machine, Run, ok, _>>=_, for-each, match_none:_some:_, in-pass, unwatch, with-observed}
 use Rattle.model.specs.Sync.{answer, answer-failed, is-unread, doubtful, doubt, observe, read-unread, list-change, after-page, on-page, restart-pass, abandon-pass, list-failed, list-answered, on-list, listed-unread, pass-read-found, pass-read-answered, on-pass-read}
 use Rattle.frame.specs.Read.{kept, readAt, Means}
-use Rattle.frame.specs.Meaning.{optionEventAt, pageAt, meantFailure, meantOutcome}
+use Rattle.frame.specs.Meaning.{optionEventAt, pageAt, meantOutcome}
 use Rattle.frame.specs.declared.Cursor.{Cursor}
-use Rattle.frame.specs.declared.Failure as failures
 use Rattle.frame.specs.declared.Failure.the-variants as failure
 use Rattle.frame.specs.declared.Outcome as outcomes
 use Rattle.frame.specs.declared.Outcome.the-variants as outcome
@@ -30,6 +28,7 @@ use Rattle.machine.specs.Contract.{Does, Changes}
 use Rattle.machine.proofs.Runs as runs
 use Rattle.passes.specs.Reading.{request-from, failed-in-pass, answered-in-pass}
 use Rattle.passes.proofs.Changing as changing
+use Rattle.passes.proofs.Listing.{Doubts}
 
 -- ---- a page
 
@@ -151,9 +150,6 @@ unfolding outcomeF via enum _∣_
 event-ok s x event e k = subst (λ (y : outcomes.Outcome). outcomeF .Ok (meantOutcome s y)) e k
 
 -- ---- the answer to a pass's read
-
-abbrev Doubts : RequestId → ResourceId → SyncState → Bool
-Doubts id r s = ltb id (s .learned-all) || is-some-and (λ since. ltb id since) (get by-name r (s .learned))
 
 abbrev Unread : ResourceId → SyncState → Bool
 Unread r s = is-some-and is-unread (get by-name r (staged-of s))

@@ -1,16 +1,16 @@
 -- Sequencing of functions that are lent the work buffer alone, and the open pass changed. Assumes nothing.
 use Prim.Native.Nat.{ℕ}
-use mathlib.Core.Path.{_≡_, refl, sym, ap, _∙_, subst}
+use mathlib.Core.Path.{_≡_, refl}
 use mathlib.Core.List.{List}
 use mathlib.Core.Option.{Option, none, some}
 use mathlib.Core.Bool.{Bool, true, false}
 use Rattle.model.specs.State.{Pass, SyncState}
 use Rattle.model.specs.Maps.{if_then_else_}
-use Rattle.model.specs.Machine.{Machine, Run, refused, ok, _>>=_, match_none:_some:_, with-state, change-pass, set-pass}
+use Rattle.model.specs.Machine.{Machine, Run, ok, _>>=_, match_none:_some:_, with-state, change-pass, set-pass}
 use Rattle.state.specs.Setters.{with-pass, pass-changed}
 use Rattle.state.specs.Contract.{HasState, Reads, Edits}
 use Rattle.machine.specs.declared.Progress.{Progress}
-use Rattle.machine.specs.Contract.{Holds, Does, Changes}
+use Rattle.machine.specs.Contract.{Changes}
 use Rattle.machine.proofs.Runs as runs
 
 pub and-then : {f g : Machine → Run} {w w₁ w₂ : List ℕ} {p q r : Progress} → Changes f w p q w₁ → Changes g w₁ q r w₂ → Changes (λ m. f m >>= g) w p r w₂

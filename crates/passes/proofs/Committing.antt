@@ -1,6 +1,5 @@
 -- The commit of a pass: each law's premises are what the callees ensure. Assumes nothing.
 use Prim.Native.Nat.{ℕ, _+_, _-_, _≤_, _<_}
-use native.Mathlib.Nat.{not-suc-le-zero}
 use native.Mathlib.Omega.{arith}
 use mathlib.Core.Path.{_≡_, refl, sym, ap, _∙_, subst}
 use mathlib.Core.List.{List, [], _∷_, _++_, append-assoc}
@@ -9,7 +8,7 @@ use mathlib.Core.Bool.{Bool, true, false, not, _&&_, true≢false, false≢true}
 use lib.ListN.{length, take, drop, getD, take-append-drop}
 use lib.Dec.{leb}
 use Rattle.spans.specs.Bytes.{zeros}
-use Rattle.model.specs.Event.{Text, ProviderEvent}
+use Rattle.model.specs.Event.{ProviderEvent}
 use Rattle.model.specs.Seam.{ResourceId}
 use Rattle.model.specs.State.{Map, Staged, Pass, SyncState}
 use Rattle.model.specs.Calls.{Effect, Notice}
@@ -19,12 +18,12 @@ use Rattle.model.specs.Machine.{Machine, Run, refused, ok, _>>=_, for-each, mat
 use Rattle.model.specs.Sync.{is-unread, replaces, put-record, remove-record, read-unread, ready, apply-one, apply-staged, apply-pass, read-observed, try-commit}
 use Rattle.state.specs.Layout.{padded, field, name-slot, pass-of, no-pass}
 use Rattle.state.specs.Setters.{with-records, with-cursor, with-pass, pass-changed}
-use Rattle.state.specs.Contract.{state-length, Keeps, HasState, Reads, Edits}
-use Rattle.state.specs.Values.{name-of, Named}
+use Rattle.state.specs.Contract.{Keeps, HasState, Reads, Edits}
+use Rattle.state.specs.Values.{name-of}
 use Rattle.state.proofs.Padded.{text-name-only}
 use Rattle.state.proofs.Columns as columns
 use Rattle.records.specs.Retaining.{with-seen-records}
-use Rattle.versions.specs.Versions.{Stands, HasEvent}
+use Rattle.versions.specs.Versions.{HasEvent}
 use Rattle.pass_tables.proofs.Laws as pass-tables
 use Rattle.staged.specs.Staging.{staged-of, staged-at, kind-of, StagedAt}
 use Rattle.staged.specs.declared.StagedKind.{StagedKind}

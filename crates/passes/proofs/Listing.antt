@@ -1,50 +1,34 @@
 -- One change of a page: each law's premises are what the callees ensure. Assumes nothing.
-use Prim.Native.Nat.{ℕ, zero, suc, _+_, _-_, _*_, _≤_, _<_}
-use native.Mathlib.Omega.{arith}
-use mathlib.Core.Path.{_≡_, refl, sym, ap, ap₂, _∙_, subst}
-use mathlib.Core.List.{List, [], _∷_, _++_, append-assoc}
-use mathlib.Core.Option.{Option, none, some, Option·some-injective}
+use Prim.Native.Nat.{ℕ, _+_, _-_}
+use mathlib.Core.Path.{_≡_, sym, ap, _∙_, subst}
+use mathlib.Core.List.{List, _++_, append-assoc}
+use mathlib.Core.Option.{Option, none, some}
 use mathlib.Core.Bool.{Bool, true, false, _||_}
-use lib.ListN.{length, take, drop, length-drop, take-append-drop}
-use lib.Dec.{leb, ltb}
-use Rattle.format.specs.Format.{Format, option, via, enum, _∣_, _⊗_, nothing, below}
-use Rattle.format.specs.Format.{text as textFormat}
+use lib.ListN.{length, drop, take-append-drop}
+use lib.Dec.{ltb}
+use Rattle.format.specs.Format.{option, via, enum, _∣_, _⊗_}
 use Rattle.spans.specs.Bytes.{zeros}
 use Rattle.tables.specs.declared.Place.{Place}
 use Rattle.tables.specs.declared.Place.the-variants.{Found, Missing}
 use Rattle.model.specs.Event.{Text, ProviderRevision, ProviderEvent}
 use Rattle.model.specs.Seam.{RequestId, ResourceId, Change}
-use Rattle.model.specs.State.{Staged, Pass, SyncState}
-use Rattle.model.specs.Limits.{Limits, document01, max-id}
-use Rattle.model.specs.Maps.{if_then_else_, by-name, insert, remove, add, get, is-some-and}
-use Rattle.model.specs.Formats.{same, resourceId, shortText, providerF, idsF, eventF, changeF}
-use Rattle.model.specs.Machine.{Machine, Run, refused, ok, _>>=_, match_none:_some:_, within, with-state, in-pass, change-pass, set-pass, with-staged, with-seen, stage, unstage, see}
+use Rattle.model.specs.State.{Staged, SyncState}
+use Rattle.model.specs.Maps.{if_then_else_, by-name, remove, get, is-some-and}
+use Rattle.model.specs.Formats.{same, resourceId, shortText, eventF, changeF}
+use Rattle.model.specs.Machine.{Machine, Run, ok, _>>=_, with-staged, stage, unstage, see}
 use Rattle.model.specs.Sync.{learn, doubtful, holds, staged-of, list-change}
-use Rattle.model.proofs.FormatsLaws.{eventF-law}
-use Rattle.frame.specs.Read.{skips, kept, readAt, Means}
-use Rattle.frame.specs.Meaning.{noEvent, resourceAt, textAt, eventAt, optionEventAt, meantChange}
-use Rattle.frame.specs.declared.Cursor.{Cursor}
+use Rattle.frame.specs.Meaning.{resourceAt, textAt, optionEventAt, meantChange}
 use Rattle.frame.specs.declared.Change as places
 use Rattle.frame.specs.declared.Change.the-variants as change
-use Rattle.frame.proofs.Steps.{skips-le}
-use Rattle.frame.proofs.Means.{means-place}
-use Rattle.frame.proofs.Stood.{event-stands, option-event-stands}
-use Rattle.values.specs.Parts.{meantListed}
-use Rattle.values.specs.declared.Listed as listed
-use Rattle.values.specs.declared.Listed.the-variants as listing
-use Rattle.state.specs.Layout.{padded, field, name-slot}
-use Rattle.state.specs.Setters.{with-pass, pass-changed}
-use Rattle.state.specs.Contract.{state-length, Keeps, HasState, Reads, Edits, Tries}
-use Rattle.state.specs.Values.{name-of, Named}
-use Rattle.state.proofs.Widths.{event-within}
-use Rattle.state.proofs.Padded.{length-field}
-use Rattle.state.proofs.Ops as ops
+use Rattle.state.specs.Layout.{padded}
+use Rattle.state.specs.Contract.{Reads, Edits, Tries}
+use Rattle.state.specs.Values.{name-of}
 use Rattle.records.specs.Events.{RecordAt, RecordIs, FindsRecord}
 use Rattle.records.proofs.Laws as records
-use Rattle.versions.specs.Versions.{Stands, HasEvent, VersionOf}
+use Rattle.versions.specs.Versions.{Stands, VersionOf}
 use Rattle.staged.specs.Staging.{may-stage, with-stage, without-stage}
 use Rattle.machine.specs.declared.Progress.{Progress}
-use Rattle.machine.specs.Contract.{Does, Changes}
+use Rattle.machine.specs.Contract.{Changes}
 use Rattle.machine.specs.Steps.{tried-by}
 use Rattle.machine.proofs.Steps as steps
 use Rattle.observe.proofs.Reading as opened
@@ -112,7 +96,7 @@ held-already {w} {w′} {p} r t rev n event R e E =
 
 -- ---- a change
 
-abbrev Doubts : RequestId → ResourceId → SyncState → Bool
+abbrev pub Doubts : RequestId → ResourceId → SyncState → Bool
 Doubts id r s = ltb id (s .learned-all) || is-some-and (λ since. ltb id since) (get by-name r (s .learned))
 
 abbrev upsert-with : ResourceId → ProviderRevision → Option ProviderEvent → Bool → Machine → Run

@@ -1,16 +1,15 @@
 -- The changes of a page, one after the other. Assumes nothing.
 use Prim.Native.Nat.{ℕ, zero, suc, _-_, _≤_, _<_}
 use native.Mathlib.Omega.{arith}
-use mathlib.Core.Path.{_≡_, refl, sym, ap, _∙_, subst}
+use mathlib.Core.Path.{_≡_, refl, sym, subst}
 use mathlib.Core.List.{List, [], _∷_}
 use mathlib.Core.Option.{some}
 use mathlib.Core.Bool.{true}
-use lib.ListN.{length}
 use Rattle.format.specs.Format.{All, below, list, via, _⊗_}
-use Rattle.model.specs.Seam.{RequestId, Change, Next, Page}
+use Rattle.model.specs.Seam.{RequestId, Change, Page}
 use Rattle.model.specs.Limits.{max-changes}
 use Rattle.model.specs.Formats.{changeF, nextF, pageF}
-use Rattle.model.specs.Machine.{Machine, Run, for-each}
+use Rattle.model.specs.Machine.{for-each}
 use Rattle.model.specs.Sync.{list-change}
 use Rattle.frame.specs.Read.{readAt, Found, Means}
 use Rattle.frame.specs.Meaning.{pageAt}

@@ -2,8 +2,8 @@
 use Prim.Native.Nat.{ℕ, _+_, _≤_}
 use native.Mathlib.Omega.{arith}
 use mathlib.Core.Path.{_≡_, refl, sym, ap, ap₂, _∙_, subst}
-use mathlib.Core.List.{List, [], _∷_}
-use mathlib.Core.Option.{Option, none, some}
+use mathlib.Core.List.{List}
+use mathlib.Core.Option.{none, some}
 use mathlib.Core.Bool.{Bool, true, false, not}
 use lib.ListN.{length}
 use lib.Dec.{leb, eqb}
@@ -17,10 +17,10 @@ use Rattle.model.specs.Seam.{ListFrom, Request, Next, Outcome}
 use Rattle.model.specs.State as model
 use Rattle.model.specs.State.{SyncState}
 use Rattle.model.specs.Calls.{Effect, Notice}
-use Rattle.model.specs.Limits.{max-text, max-id}
+use Rattle.model.specs.Limits.{max-text}
 use Rattle.model.specs.Maps.{if_then_else_, by-number, insert, filter, retain}
 use Rattle.model.specs.Formats.{shortText, nextF}
-use Rattle.model.specs.Machine.{Machine, Run, refused, ok, _>>=_, within, with-state, push, tell, request, change-pass, set-pass, set-cursor, set-in-flight, set-next-request, set-learned-all, with-from, with-done}
+use Rattle.model.specs.Machine.{Machine, Run, refused, ok, _>>=_, within, with-state, push, tell, request, set-pass, set-cursor, set-in-flight, set-next-request, set-learned-all, with-from, with-done}
 use Rattle.model.specs.Sync.{describe, is-pass-read, is-of-pass, drop-in-flight, new-pass, start-pass, restart-pass, abandon-pass, pass-full, after-page}
 use Rattle.frame.specs.Meaning.{textAt}
 use Rattle.values.specs.Parts.{meantNext}
@@ -28,16 +28,16 @@ use Rattle.values.specs.declared.Next as places
 use Rattle.values.specs.declared.Next.the-variants as next
 use Rattle.effects.specs.Told.{Told}
 use Rattle.pens.specs.declared.Pen.{Pen}
-use Rattle.state.specs.Layout.{padded, name-slot, pass-of}
+use Rattle.state.specs.Layout.{padded, pass-of}
 use Rattle.state.specs.Setters.{with-pass, with-cursor, with-in-flight, with-learned-all, pass-changed}
 use Rattle.state.specs.Contract.{Keeps, HasState, Reads, Edits}
-use Rattle.state.specs.Values.{name-of, Named}
+use Rattle.state.specs.Values.{Named}
 use Rattle.pass_header.specs.From.{kind-of, text-of, from-in}
 use Rattle.pass_header.specs.declared.FromKind.{FromKind}
 use Rattle.pass_header.specs.declared.FromKind.the-variants as from
 use Rattle.staged.proofs.Bridge.{pass-full-is}
 use Rattle.machine.specs.declared.Progress.{Progress}
-use Rattle.machine.specs.Contract.{Holds, Does, Changes, Pushes}
+use Rattle.machine.specs.Contract.{Does, Changes, Pushes}
 use Rattle.machine.specs.Steps.{pen-of, sent-by, reserve}
 use Rattle.machine.proofs.Runs as runs
 use Rattle.machine.proofs.Steps as steps

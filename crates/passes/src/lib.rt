@@ -2,8 +2,8 @@
 use frame::Change;
 use frame::Cursor;
 use frame::Failure;
-use frame::Outcome;
 use frame::MAX_CHANGES;
+use frame::Outcome;
 use machine::Progress;
 use names::Name;
 use pass_header::FromKind;
@@ -166,9 +166,9 @@ fn list_change(work: &mut [u8], p: Progress, frame: &[u8], id: u64, change: Chan
 // ---- SyncState::on_list: the changes of a page
 
 // How far the step came, and the place after the changes.
-pub struct Walked {
-    pub progress: Progress,
-    pub place: Cursor,
+struct Walked {
+    progress: Progress,
+    place: Cursor,
 }
 
 fn list_changes(work: &mut [u8], p: Progress, frame: &[u8], id: u64, page: usize) -> Walked
@@ -428,13 +428,7 @@ fn pass_read_found(
     q
 }
 
-fn pass_read_gone(
-    work: &mut [u8],
-    out: &mut [u8],
-    p: Progress,
-    id: u64,
-    name: Name,
-) -> Progress
+fn pass_read_gone(work: &mut [u8], out: &mut [u8], p: Progress, id: u64, name: Name) -> Progress
     requires { ⌜ HasState (now work) ⌝ }
     requires { ⌜ Named (name .bytes) ⌝ }
     ensures { λ r. ⌜ Does (pass-read-found id (name-of (name .bytes)) none) (now (work .entry)) (now (out .entry)) p r (now (work .exit)) (now (out .exit)) ⌝ }
@@ -465,16 +459,12 @@ fn pass_read_failed(
     ensures { λ r. ⌜ Does (on-pass-read id (name-of (name .bytes)) (seam.Outcome.Failed (meantFailure (now (frame .entry)) failure))) (now (work .entry)) (now (out .entry)) p r (now (work .exit)) (now (out .exit)) ⌝ }
 {
     match failure {
-        Failure::CursorExpired => {
-            abandon_if_open(work, out, p, frame, Outcome::Failed(failure))
-        }
+        Failure::CursorExpired => { abandon_if_open(work, out, p, frame, Outcome::Failed(failure)) }
         Failure::PreconditionFailed => {
             abandon_if_open(work, out, p, frame, Outcome::Failed(failure))
         }
         Failure::NotFound => pass_read_gone(work, out, p, id, name),
-        Failure::AlreadyExists => {
-            abandon_if_open(work, out, p, frame, Outcome::Failed(failure))
-        }
+        Failure::AlreadyExists => { abandon_if_open(work, out, p, frame, Outcome::Failed(failure)) }
         Failure::Transient => observe::read_unread(work, out, p),
         Failure::Rejected(_why) => {
             abandon_if_open(work, out, p, frame, Outcome::Failed(failure))
