@@ -1,12 +1,12 @@
 -- The slots of all queues, cut at one resource: those before it, its own, and those behind it. Another queue for it takes the place
 -- of its own. Assumes nothing.
-use Prim.Native.Nat.{ℕ, zero, suc, _+_, _-_, _*_, _≤_, _<_, Ordering, Ordering·lt, Ordering·eq, Ordering·gt}
+use Prim.Native.Nat.{ℕ, suc, _+_, _-_, _*_, _≤_, Ordering·lt, Ordering·eq, Ordering·gt}
 use native.Mathlib.Nat.{zero-add, zero-mul, suc-mul}
 use native.Mathlib.Omega.{arith}
 use mathlib.Core.Path.{_≡_, refl, sym, ap, ap₂, _∙_, subst}
-use mathlib.Core.List.{List, [], _∷_, _++_, append-assoc, append-nil}
-use mathlib.Core.Option.{Option, none, some}
-use mathlib.Core.Bool.{Bool, true, false, _&&_}
+use mathlib.Core.List.{List, [], _∷_, _++_, append-assoc}
+use mathlib.Core.Option.{some}
+use mathlib.Core.Bool.{Bool, true, false}
 use lib.ListN.{length, length-append}
 use lib.Dec.{T}
 use Rattle.format.specs.Format.{All}
@@ -16,10 +16,10 @@ use Rattle.spans.specs.declared.Order.the-variants.{Less, Equal, Greater}
 use Rattle.tables.specs.Table.{Table, text}
 use Rattle.model.specs.Event.{Text}
 use Rattle.model.specs.Seam.{ResourceId}
-use Rattle.model.specs.State.{Map, Pending, Queue, SyncState}
+use Rattle.model.specs.State.{Map, Pending, Queue}
 use Rattle.model.specs.Limits.{document01}
 use Rattle.model.specs.Maps.{by, by-name, get, insert, remove, map, keys, values}
-use Rattle.model.specs.Machine.{match_none:_some:_, sum, Machine, queue-of, set-queue, set-edits, entries}
+use Rattle.model.specs.Machine.{match_none:_some:_, sum}
 use Rattle.model.specs.Formats.{resourceId}
 use Rattle.model.specs.WellFormed.{rising}
 use Rattle.model.proofs.Tables as orders
@@ -29,23 +29,8 @@ use Rattle.state.specs.Fits.{PendingFits, QueueFits, EditsFit}
 use Rattle.state.proofs.Orders.{flipped, name-order}
 use Rattle.state.proofs.Padded.{text-name}
 use Rattle.state.proofs.Rows.{length-rows}
-use Rattle.waiting.specs.Queues.{queue-in, put-in, below, queue, put-queue, all-entries}
+use Rattle.waiting.specs.Queues.{queue-in, put-in, below}
 use Rattle.waiting.specs.Slots.{counts, tallied}
-
--- ---- the model's words
-
-pub queue-is : (r : ResourceId) (m : Machine) → queue-of r m ≡ queue r (m .state)
-unfolding queue-of queue-in
-queue-is r m = refl
-
-pub put-is : (r : ResourceId) (q : Queue) (m : Machine) → (set-queue r q m) .state ≡ put-queue r q (m .state)
-unfolding set-queue put-in set-edits
-put-is r [] m = refl
-put-is r (p ∷ q) m = refl
-
-pub entries-is : (m : Machine) → entries m ≡ all-entries (m .state)
-unfolding entries
-entries-is m = refl
 
 -- ---- slots by their keys
 
@@ -161,8 +146,8 @@ cut r (e ∷ m) a t =
     orders.ordering-cases (λ o. by-name r (e .0) ≡ o → Cut r (e ∷ m)) (by-name r (e .0))
     (λ l h. cut-lt r e m h t)
     (λ l h.
-        let k : r ≡ e .0 = orders.by-name-same r (e .0) h in
-        subst (λ (x : ResourceId). Cut x (e ∷ m)) (sym k) (cut-eq (e .0) (e .1) m t (a .0 .each)))
+    let k : r ≡ e .0 = orders.by-name-same r (e .0) h in
+    subst (λ (x : ResourceId). Cut x (e ∷ m)) (sym k) (cut-eq (e .0) (e .1) m t (a .0 .each)))
     (λ l h. cut-gt r e m h (cut r m (a .1) (orders.rising-tail by-name orders.name-order (e .0) m t))) refl
 
 -- ---- counting by keys

@@ -1,16 +1,15 @@
 -- The fields of a waiting entry's slot. Assumes nothing.
-use Prim.Native.Nat.{ℕ, zero, suc, _+_, _-_, _*_, _≤_, _<_}
+use Prim.Native.Nat.{ℕ, zero, suc, _+_, _-_, _≤_, _<_}
 use native.Mathlib.Omega.{arith}
 use mathlib.Core.Path.{_≡_, refl, sym, ap, ap₂, _∙_, subst}
 use mathlib.Core.List.{List, [], _∷_, _++_, append-nil}
-use mathlib.Core.Option.{Option, none, some}
 use mathlib.Core.Bool.{Bool, true, false}
 use lib.ListN.{length, take, drop, getD, set, length-append, length-replicate, replicate-append-replicate, drop-of-length-le}
-use Rattle.format.specs.Format.{All, option, list, stamp, bool, via, below}
+use Rattle.format.specs.Format.{option, list, stamp, bool, via, below}
 use Rattle.spans.specs.Bytes.{zeros}
 use Rattle.tables.specs.Table.{Table, flat, Lens, offset}
 use Rattle.tables.proofs.Laws as tables
-use Rattle.lent.specs.Lent.{part, placed}
+use Rattle.lent.specs.Lent.{placed}
 use Rattle.model.specs.Seam.{ResourceId}
 use Rattle.model.specs.Parts.{Conflict, Refused}
 use Rattle.model.specs.State.{Pending}

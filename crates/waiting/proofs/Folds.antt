@@ -1,18 +1,17 @@
 -- An edit folded into the newest entry of a queue. Assumes nothing.
-use Prim.Native.Nat.{ℕ, zero, suc, _+_, _-_, _*_, _≤_, _<_}
+use Prim.Native.Nat.{ℕ, suc, _+_, _-_, _*_, _≤_, _<_}
 use native.Mathlib.Nat.{suc-mul, mul-le-mul-right}
 use native.Mathlib.Omega.{arith}
 use mathlib.Core.Path.{_≡_, refl, sym, ap, ap₂, _∙_, subst}
 use mathlib.Core.List.{List, [], _∷_, _++_, append-assoc}
-use mathlib.Core.Option.{Option, none, some}
-use mathlib.Core.Bool.{Bool, true, false}
+use mathlib.Core.Option.{none, some}
+use mathlib.Core.Bool.{true, false}
 use lib.ListN.{length, take, drop, getD, set, length-append, take-append-drop}
 use lib.Seq.{take-all, drop-drop, getD-drop}
 use lib.Dec.{leb}
 use borrow.Author.Tests.{le-leb, lt-leb}
 use Rattle.format.specs.Format.{All, list}
 use Rattle.spans.specs.Bytes.{zeros}
-use Rattle.tables.specs.Table.{Table}
 use Rattle.tables.proofs.Laws as tables
 use Rattle.lent.specs.Lent.{placed}
 use Rattle.model.specs.Event.{Text}
@@ -28,10 +27,10 @@ use Rattle.state.specs.Fits.{PendingFits}
 use Rattle.state.specs.Contract.{Keeps, HasState, Reads, Edits, Tries}
 use Rattle.state.proofs.Widths.{text-33}
 use Rattle.waiting.specs.Queues.{below, queue, put-queue, nth, change-at, change-last, may-absorb}
-use Rattle.waiting.specs.Slots.{Slots, EditsSlots, Rewrites, more-fields}
+use Rattle.waiting.specs.Slots.{EditsSlots, Rewrites, more-fields}
 use Rattle.waiting.specs.Entries.{EntryAt, FoldBytes}
-use Rattle.waiting.specs.Texts.{text-end, texts-end}
-use Rattle.waiting.proofs.Cuts.{Slot, Flat}
+use Rattle.waiting.specs.Texts.{texts-end}
+use Rattle.waiting.proofs.Cuts.{Slot}
 use Rattle.waiting.proofs.Lists as lists
 use Rattle.waiting.proofs.Fields as fields
 use Rattle.waiting.proofs.Splices as splices

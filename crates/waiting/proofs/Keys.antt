@@ -1,13 +1,13 @@
 -- The resources that have a queue, read off the slots one queue after the other. Assumes nothing.
-use Prim.Native.Nat.{ℕ, zero, suc, _+_, _-_, _*_, _≤_, _<_, Ordering, Ordering·lt, Ordering·eq, Ordering·gt}
-use native.Mathlib.Nat.{add-zero, suc-mul, zero-mul}
+use Prim.Native.Nat.{ℕ, zero, suc, _+_, _-_, _*_, _≤_, _<_, Ordering·lt, Ordering·gt}
+use native.Mathlib.Nat.{add-zero, suc-mul, zero-mul, not-suc-le-zero, le-of-suc-le-suc}
 use native.Mathlib.Omega.{arith}
 use mathlib.Core.Path.{_≡_, refl, sym, ap, ap₂, _∙_, subst}
 use mathlib.Core.List.{List, [], _∷_, _++_, append-assoc, append-nil}
-use mathlib.Core.Option.{Option, none, some}
-use mathlib.Core.Bool.{Bool, true, false, _&&_}
-use lib.ListN.{length, take, drop, getD, length-append, length-replicate, replicate-append-replicate}
-use lib.Seq.{take-at, drop-at, drop-append-add, getD-append-add, take-take}
+use mathlib.Core.Option.{some}
+use mathlib.Core.Bool.{true, false}
+use lib.ListN.{length, take, drop, getD, length-append}
+use lib.Seq.{take-at, drop-append-add, getD-append-add, take-take}
 use lib.Dec.{T}
 use Rattle.format.specs.Format.{All}
 use Rattle.spans.specs.Bytes.{zeros}
@@ -21,16 +21,15 @@ use Rattle.model.specs.Machine.{match_none:_some:_}
 use Rattle.model.specs.Formats.{resourceId}
 use Rattle.model.specs.WellFormed.{rising}
 use Rattle.model.proofs.Tables as orders
-use Rattle.state.specs.Layout.{padded, field, name-slot, pending-slot, edit-slots}
-use Rattle.state.specs.Fits.{PendingFits, QueueFits}
+use Rattle.state.specs.Layout.{padded, name-slot, pending-slot, edit-slots}
+use Rattle.state.specs.Fits.{QueueFits}
 use Rattle.state.specs.Contract.{Keeps, HasState, Reads}
 use Rattle.state.specs.Values.{name-of, Named}
 use Rattle.state.proofs.Rows.{length-rows}
-use Rattle.state.proofs.Padded.{length-name, text-name-only}
+use Rattle.state.proofs.Padded.{length-name, length-padded, text-name-only}
 use Rattle.waiting.specs.Queues.{queue-in, queue}
 use Rattle.waiting.specs.Entries.{ListsResources}
 use Rattle.waiting.proofs.Cuts.{Slot, Rows, Flat}
-use Rattle.waiting.proofs.Lists as lists
 use Rattle.waiting.proofs.Splices as splices
 use Rattle.waiting.proofs.Writes.{drop-zeros}
 
@@ -241,3 +240,46 @@ turn-next {s} {w} i count n bytes b bytes′ h l L q N p =
 
 pub key-long : {s : SyncState} {w : List ℕ} (i count : ℕ) (bytes b : List ℕ) → (R : Turn s w i count bytes) → b ≡ take 33 (drop (20002 + (1 + i * 5940)) w) → length b ≡ 33
 key-long i count bytes b R q = ap length (q ∙ R .key) ∙ length-name (R .e .0) (R .ok)
+
+-- ---- the names listed
+
+pub keys-ok : (m : Map ResourceId Queue) → All (QueueFits document01) m → All (resourceId .Ok) (keys m)
+unfolding keys map
+keys-ok [] a = tt
+keys-ok (e ∷ m) a = (a .0 .key, keys-ok m (a .1))
+
+pub lists-long : (w : List ℕ) (count : ℕ) (bytes : List ℕ) → HasState w → ListsResources w count bytes → (length bytes ≡ 198) × (count ≤ 6)
+unfolding document01
+lists-long w count bytes H L =
+    let m : Map ResourceId Queue = H .state .edits in
+    let a = H .keeps .fits .edits in
+    let n : length (flat (map name-slot (keys (H .state .edits)))) ≡ length (H .state .edits) * 33 = keys-long m (a .each) in
+    let f : length (H .state .edits) ≤ length (Flat (H .state .edits)) = few-keys m (a .each) in
+    let s : length (Flat (H .state .edits)) ≤ 6 = a .small in
+    let x : (count ≡ length (H .state .edits)) × (bytes ≡ padded 198 (flat (map name-slot (keys (H .state .edits))))) = L .is (H .state) (H .keeps) in
+    let c : count ≡ length (H .state .edits) = x .0 in
+    (ap length (x .1) ∙ length-padded 198 (flat (map name-slot (keys m))) (omega arith), omega arith)
+
+name-there : (ks : List ResourceId) (k : ℕ) (tail : List ℕ) → All (resourceId .Ok) ks → k < length ks → take 33 (drop (k * 33) (flat (map name-slot ks) ++ tail)) ≡ name-slot (getD ks k [])
+unfolding map
+name-there [] k tail a h = absurd (not-suc-le-zero h)
+name-there (x ∷ ks) zero tail a h =
+    ap (λ (n : ℕ). take 33 (drop n ((name-slot x ++ flat (map name-slot ks)) ++ tail))) (zero-mul 33) ∙ ap (take 33) (append-assoc (name-slot x) (flat (map name-slot ks)) tail) ∙ take-at (name-slot x) (flat (map name-slot ks) ++ tail) 33 (length-name x (a .0))
+name-there (x ∷ ks) (suc k) tail a h =
+    let l : length (name-slot x) ≡ 33 = length-name x (a .0) in
+    let n : suc k * 33 ≡ length (name-slot x) + k * 33 = let s : suc k * 33 ≡ k * 33 + 33 = suc-mul k 33 in omega arith in
+    ap₂ (λ (i : ℕ) (y : List ℕ). take 33 (drop i y)) n (append-assoc (name-slot x) (flat (map name-slot ks)) tail) ∙ ap (take 33) (drop-append-add (name-slot x) (flat (map name-slot ks) ++ tail) (k * 33))
+    ∙ name-there ks k tail (a .1) (le-of-suc-le-suc h)
+
+key-at : (ks : List ResourceId) (k : ℕ) → All (resourceId .Ok) ks → k < length ks → resourceId .Ok (getD ks k [])
+key-at [] k a h = absurd (not-suc-le-zero h)
+key-at (x ∷ ks) zero a h = a .0
+key-at (x ∷ ks) (suc k) a h = key-at ks k (a .1) (le-of-suc-le-suc h)
+
+pub name-listed : (bytes b : List ℕ) (k : ℕ) → b ≡ take 33 (drop (k * 33) bytes) → (ks : List ResourceId) → All (resourceId .Ok) ks → bytes ≡ padded 198 (flat (map name-slot ks)) → k < length ks
+    → Named b × (name-of b ≡ getD ks k [])
+unfolding padded
+name-listed bytes b k q ks a e h =
+    let f : b ≡ name-slot (getD ks k []) = q ∙ ap (λ (x : List ℕ). take 33 (drop (k * 33) x)) e ∙ name-there ks k (zeros (198 - length (flat (map name-slot ks)))) a h in
+    let n : name-of b ≡ getD ks k [] = ap text f ∙ text-name-only (getD ks k []) in
+    (record { is = f ∙ ap name-slot (sym n); ok = subst (resourceId .Ok) (sym n) (key-at ks k a h) }, n)

@@ -1,10 +1,10 @@
 -- What the functions of this crate cite: each law's premises are what the callees ensure. Assumes nothing.
 use Prim.Native.Nat.{ℕ, zero, suc, _+_, _-_, _*_, _≤_, _<_}
-use native.Mathlib.Nat.{add-zero, zero-add, not-suc-le-zero, mul-le-mul-right, suc-mul}
+use native.Mathlib.Nat.{add-zero, not-suc-le-zero}
 use native.Mathlib.Omega.{arith}
 use mathlib.Core.Path.{_≡_, refl, sym, ap, ap₂, _∙_, subst}
 use mathlib.Core.List.{List, [], _∷_, _++_, append-nil}
-use mathlib.Core.Option.{Option, none, some}
+use mathlib.Core.Option.{none, some}
 use mathlib.Core.Bool.{Bool, true, false}
 use lib.ListN.{length, take, drop, getD, set, length-append, drop-of-length-le}
 use lib.Seq.{take-all, set-at, getD-at, length-take-le}
@@ -13,13 +13,12 @@ use borrow.Author.Tests.{le-leb, lt-leb}
 use Rattle.spans.specs.Bytes.{zeros}
 use Rattle.state.proofs.Rows.{length-rows}
 use Rattle.model.specs.Maps.{map}
-use Rattle.format.specs.Format.{All, option, list, stamp, bool}
+use Rattle.format.specs.Format.{list}
 use Rattle.spans.specs.Compare.{order}
 use Rattle.spans.specs.declared.Order.{Order}
 use Rattle.spans.specs.declared.Order.the-variants.{Less, Equal, Greater}
-use Rattle.tables.specs.Table.{Table, flat, Sized, encTable, chunks, slotsOf, text, Lens, offset}
+use Rattle.tables.specs.Table.{Table, flat, Sized, encTable, chunks, slotsOf, text}
 use Rattle.tables.specs.Table.{without as without-slot}
-use Rattle.tables.specs.declared.Place.{Place}
 use Rattle.tables.specs.declared.Place.the-variants.{Found, Missing}
 use Rattle.tables.proofs.Laws as tables
 use Rattle.lent.specs.Lent.{part, placed}
@@ -34,12 +33,12 @@ use Rattle.model.specs.Edits.{Edit}
 use Rattle.model.proofs.FitQueues.{no-conflicts, no-refusals}
 use Rattle.state.specs.Layout.{padded, name-slot}
 use Rattle.state.specs.Fits.{PendingFits}
-use Rattle.state.specs.Contract.{state-length, Keeps, HasState, Reads, Edits, Tries}
+use Rattle.state.specs.Contract.{Keeps, HasState, Reads, Edits, Tries}
 use Rattle.state.specs.Values.{name-of, Named}
 use Rattle.waiting.specs.Queues.{put-in, below, queue, put-queue, all-entries, nth, without, change-at, planned, joined}
-use Rattle.waiting.specs.Slots.{Slots, HasSlots, ReadsSlots, EditsSlots, Rewrites, Opens, counts, tallied, rewritten, inserted, new-fields}
+use Rattle.waiting.specs.Slots.{Slots, ReadsSlots, EditsSlots, Rewrites, Opens, counts, tallied, inserted, new-fields}
 use Rattle.waiting.specs.Entries.{EntryAt, EntryIs, FindsEntry, PlanBytes, EditBytes}
-use Rattle.waiting.proofs.Cuts.{Slot, Rows, Flat, Cut, flat-count}
+use Rattle.waiting.proofs.Cuts.{Slot, Rows, Flat, flat-count}
 use Rattle.waiting.proofs.Lists as lists
 use Rattle.waiting.proofs.Fields as fields
 use Rattle.waiting.proofs.Splices as splices

@@ -9,3 +9,4 @@ pub mod Laws
 pub mod Folds
 pub mod Moves
 pub mod Reading
+pub mod Bridge

@@ -1,12 +1,12 @@
 -- Lists cut in three, and a part of a buffer put in its place. Assumes nothing.
-use Prim.Native.Nat.{ℕ, zero, suc, _+_, _-_, _*_, _≤_, _<_}
+use Prim.Native.Nat.{ℕ, zero, suc, _+_, _-_, _≤_, _<_}
 use native.Mathlib.Nat.{zero-add, suc-add, add-suc, not-suc-le-zero, le-of-suc-le-suc}
 use native.Mathlib.Omega.{arith}
 use mathlib.Core.Path.{_≡_, refl, sym, ap, ap₂, _∙_, subst}
-use mathlib.Core.List.{List, [], _∷_, _++_, append-assoc, append-nil}
+use mathlib.Core.List.{List, [], _∷_, _++_, append-assoc}
 use mathlib.Core.Option.{Option, none, some, Option·some-injective, Option·none-ne-some}
-use lib.ListN.{length, take, drop, getD, set, length-append, length-take, length-drop, take-append-drop, List·getD-append}
-use lib.Seq.{length-take-le, take-at, drop-at, take-append-le, drop-append-le, take-append-add, drop-append-add, take-length, drop-length, set-append-left, getD-append-add, getD-take, getD-drop, take-add, drop-drop, take-take, take-nil}
+use lib.ListN.{length, take, drop, getD, set, length-append, length-drop, take-append-drop, List·getD-append}
+use lib.Seq.{length-take-le, take-at, drop-at, take-append-le, drop-append-le, take-append-add, drop-append-add, set-append-left, getD-append-add, take-add, drop-drop, take-take, take-nil}
 use Rattle.format.specs.Format.{All}
 use Rattle.model.specs.State.{Pending, Queue}
 use Rattle.model.specs.Maps.{map}

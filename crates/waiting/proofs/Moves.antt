@@ -1,13 +1,10 @@
 -- An entry that leaves one queue and joins another. Assumes nothing.
-use Prim.Native.Nat.{ℕ, zero, suc, _+_, _-_, _*_, _≤_, _<_}
+use Prim.Native.Nat.{ℕ, suc, _+_, _-_, _*_, _≤_, _<_}
 use native.Mathlib.Omega.{arith}
-use mathlib.Core.Path.{_≡_, refl, sym, ap, ap₂, _∙_, subst}
-use mathlib.Core.List.{List, [], _∷_, _++_, append-nil}
-use mathlib.Core.Option.{Option, none, some}
+use mathlib.Core.Path.{_≡_, refl, ap, _∙_, subst}
+use mathlib.Core.List.{List, [], _++_, append-nil}
 use lib.ListN.{length, take, drop, getD, set, length-append, length-drop, drop-of-length-le}
 use lib.Seq.{length-take-le}
-use Rattle.spans.specs.Bytes.{zeros}
-use Rattle.tables.specs.Table.{Table}
 use Rattle.tables.proofs.Laws as tables
 use Rattle.lent.specs.Lent.{placed}
 use Rattle.model.specs.Seam.{ResourceId}
@@ -17,11 +14,11 @@ use Rattle.model.specs.Machine.{match_none:_some:_}
 use Rattle.model.specs.Formats.{resourceId}
 use Rattle.state.specs.Layout.{padded, name-slot}
 use Rattle.state.specs.Fits.{PendingFits}
-use Rattle.state.specs.Contract.{Keeps, HasState, Reads, Edits}
+use Rattle.state.specs.Contract.{HasState, Reads, Edits}
 use Rattle.state.specs.Values.{name-of, Named}
 use Rattle.state.proofs.Rows.{length-rows}
-use Rattle.waiting.specs.Queues.{put-in, below, queue, put-queue, nth, without, renamed, joined, moved}
-use Rattle.waiting.specs.Slots.{Slots, EditsSlots, Rewrites, Opens}
+use Rattle.waiting.specs.Queues.{put-in, below, queue, put-queue, without, renamed, joined, moved}
+use Rattle.waiting.specs.Slots.{EditsSlots, Rewrites, Opens}
 use Rattle.waiting.proofs.Cuts.{Slot, Rows, Flat}
 use Rattle.waiting.proofs.Lists as lists
 use Rattle.waiting.proofs.Fields as fields

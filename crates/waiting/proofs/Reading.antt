@@ -1,5 +1,5 @@
 -- The readers of one entry. Assumes nothing.
-use Prim.Native.Nat.{ℕ, zero, suc, _+_, _-_, _*_, _≤_, _<_, _^_}
+use Prim.Native.Nat.{ℕ, zero, suc, _+_, _-_, _*_, _≤_, _<_}
 use native.Mathlib.Nat.{add-zero, lt-of-le-of-lt, not-suc-le-zero, le-of-suc-le-suc}
 use native.Mathlib.Omega.{arith}
 use mathlib.Core.Path.{_≡_, refl, sym, ap, ap₂, _∙_, subst}
@@ -7,7 +7,7 @@ use mathlib.Core.List.{List, [], _∷_, _++_, append-assoc}
 use mathlib.Core.Option.{Option, none, some, Option·some-injective, Option·none-ne-some}
 use mathlib.Core.Bool.{Bool, true, false, _&&_}
 use lib.ListN.{length, take, drop, getD, length-append, length-drop, take-append-drop}
-use lib.Seq.{getD-take, getD-drop, take-at, drop-at, take-all, drop-drop, take-take}
+use lib.Seq.{getD-take, getD-drop, take-at, drop-at, take-all, drop-drop}
 use lib.IntN.{ℤ, pos, negsuc}
 use lib.Signed.{leZ}
 use lib.Dec.{eqb, leb, lit<}
@@ -15,9 +15,9 @@ use borrow.Author.Tests.{leb-true}
 use mir.Syntax.{w64}
 use mir.Val.{ofZ, toZ, SFits}
 use mir.Facts.{fits-ofZ, toZ-ofZ}
-use Rattle.format.specs.Format.{Format, All, option, list, stamp, bool, via, below as below-format, enum, _∣_, nothing, text, bigEndian, isTime, concatMap}
+use Rattle.format.specs.Format.{All, option, list, stamp, bool, via, below as below-format, enum, _∣_, nothing, text, bigEndian, isTime}
 use Rattle.spans.specs.Bytes.{zeros}
-use Rattle.tables.specs.Table.{Table, flat, Lens, offset}
+use Rattle.tables.specs.Table.{flat, offset}
 use Rattle.tables.proofs.Laws as tables
 use Rattle.numbers.specs.Big.{fromBe}
 use Rattle.model.specs.Event.{Text}
@@ -29,7 +29,7 @@ use Rattle.model.specs.Limits.{document01, max-text}
 use Rattle.model.specs.Maps.{is-some-and}
 use Rattle.model.specs.Formats.{resourceId, shortText, operationF, roleF}
 use Rattle.model.specs.Sync.{ids-of, due}
-use Rattle.state.specs.Layout.{padded, field, name-slot, pending-slot}
+use Rattle.state.specs.Layout.{padded, field, name-slot}
 use Rattle.state.specs.Fits.{PendingFits}
 use Rattle.state.specs.Contract.{Keeps, HasState, Reads}
 use Rattle.state.specs.Values.{number-in, bits-in}
@@ -38,7 +38,7 @@ use Rattle.state.proofs.Orders.{from-digits}
 use Rattle.state.proofs.Widths.{length-digits}
 use Rattle.waiting.specs.Queues.{below, queue, nth}
 use Rattle.waiting.specs.Entries.{EntryAt}
-use Rattle.waiting.specs.Texts.{text-end, texts-end}
+use Rattle.waiting.specs.Texts.{texts-end}
 use Rattle.waiting.specs.Reading.{entry-byte, case-of, operation-case-of, by-attendee, expiry-of, ids-number, nth-id, ReadsId}
 use Rattle.waiting.proofs.Cuts.{Slot, Flat}
 use Rattle.waiting.proofs.Lists as lists
@@ -157,16 +157,16 @@ pub number-none : (r : ResourceId) (w : List ℕ) (v j : ℕ) → resourceId .Ok
 unfolding ids-number
 number-none r w v j k R l = entry-cases r w 5675 255 v j 0 ids-number R (λ e. refl)
     (λ s h p g ok e.
-        let c : getD (Slot r p) 5675 0 ≡ length (p .absorbed) = count-of r p k ok in
-        let f : length (p .absorbed) ≤ 8 = few-ids r p ok in
-        absurd (omega arith))
+    let c : getD (Slot r p) 5675 0 ≡ length (p .absorbed) = count-of r p k ok in
+    let f : length (p .absorbed) ≤ 8 = few-ids r p ok in
+    absurd (omega arith))
 
 pub number-some : (r : ResourceId) (w : List ℕ) (v j : ℕ) → resourceId .Ok r → Reads (λ s. entry-byte r 5675 255 (nth j (queue r s))) w v → (v ≡ 255 → ⊥) → Reads (λ s. ids-number (nth j (queue r s))) w (1 + v)
 unfolding ids-number ids-of
 number-some r w v j k R l = entry-cases r w 5675 255 v j (1 + v) ids-number R (λ e. absurd (l e))
     (λ s h p g ok e.
-        let c : getD (Slot r p) 5675 0 ≡ length (p .absorbed) = count-of r p k ok in
-        omega arith)
+    let c : getD (Slot r p) 5675 0 ≡ length (p .absorbed) = count-of r p k ok in
+    omega arith)
 
 -- ---- the expiry
 

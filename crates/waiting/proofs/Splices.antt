@@ -1,35 +1,31 @@
 -- What is done to the slots, as done to the state: the laws of `Slots` and of one queue in another's place. Assumes nothing.
 use Prim.Native.Nat.{ℕ, zero, suc, _+_, _-_, _*_, _≤_, _<_}
-use native.Mathlib.Nat.{add-zero, mul-le-mul-right, suc-mul, zero-mul}
+use native.Mathlib.Nat.{mul-le-mul-right, suc-mul}
 use native.Mathlib.Omega.{arith}
-use mathlib.Core.Path.{_≡_, refl, sym, ap, ap₂, _∙_, subst}
-use mathlib.Core.List.{List, [], _∷_, _++_, append-assoc, append-nil}
-use mathlib.Core.Option.{Option, none, some, Option·some-injective}
-use mathlib.Core.Bool.{Bool, true, false}
-use lib.ListN.{length, take, drop, getD, set, length-append, length-set, length-take, length-drop, length-replicate}
-use lib.Seq.{getD-take, getD-drop, set-split, split-at, set-set, getD-set-same, set-at, getD-at, length-take-le}
+use mathlib.Core.Path.{_≡_, sym, ap, ap₂, _∙_, subst}
+use mathlib.Core.List.{List, [], _∷_, _++_}
+use mathlib.Core.Option.{some, Option·some-injective}
+use mathlib.Core.Bool.{true, false}
+use lib.ListN.{length, take, drop, getD, set, length-append}
+use lib.Seq.{getD-take, getD-drop}
 use Rattle.format.specs.Format.{All}
-use Rattle.spans.specs.Bytes.{zeros}
-use Rattle.tables.specs.Table.{Table, flat, Sized, encTable, opened, closed, text, Tab}
+use Rattle.tables.specs.Table.{Table, flat, Sized, encTable, text}
 use Rattle.tables.specs.Table.{without as without-slot}
 use Rattle.tables.proofs.Laws as tables
 use Rattle.lent.specs.Lent.{part, placed, Lent}
 use Rattle.model.specs.Seam.{ResourceId}
-use Rattle.model.specs.State.{Map, Pending, Queue, SyncState}
+use Rattle.model.specs.State.{Pending, Queue, SyncState}
 use Rattle.model.specs.Limits.{document01}
 use Rattle.model.specs.Maps.{map}
 use Rattle.model.specs.Formats.{resourceId}
 use Rattle.model.proofs.Fitting.{all-append}
-use Rattle.state.specs.Layout.{padded, edit-slots}
-use Rattle.state.specs.Fits.{PendingFits, Fits}
-use Rattle.state.specs.Setters.{with-edits}
-use Rattle.state.specs.Contract.{state-length, Keeps, HasState, Reads, Edits, Tries}
+use Rattle.state.specs.Fits.{PendingFits}
+use Rattle.state.specs.Contract.{Keeps, HasState, Reads}
 use Rattle.state.proofs.Parts as parts
-use Rattle.state.proofs.Padded.{length-padded}
 use Rattle.state.proofs.Rows.{length-rows}
 use Rattle.state.proofs.Regions.{edits-sized}
-use Rattle.waiting.specs.Queues.{queue-in, put-in, below, queue, put-queue, all-entries, nth, without, change-at}
-use Rattle.waiting.specs.Slots.{Slots, HasSlots, ReadsSlots, EditsSlots, tallied, rewritten, inserted}
+use Rattle.waiting.specs.Queues.{put-in, below, queue, put-queue, all-entries, nth, without, change-at}
+use Rattle.waiting.specs.Slots.{Slots, HasSlots, ReadsSlots, tallied, inserted}
 use Rattle.waiting.proofs.Cuts.{Slot, Rows, Flat, Cut, cut, flat-count, put-fits, tally-own, tally-before}
 use Rattle.waiting.proofs.Lists as lists
 

@@ -1,17 +1,15 @@
 -- The ids that an entry has absorbed: where the next one goes, and the list with one more. Assumes nothing.
-use Prim.Native.Nat.{ℕ, zero, suc, _+_, _-_, _*_, _≤_, _<_}
+use Prim.Native.Nat.{ℕ, zero, suc, _+_, _-_, _≤_, _<_}
 use native.Mathlib.Nat.{add-zero, not-suc-le-zero, le-of-suc-le-suc}
 use native.Mathlib.Omega.{arith}
-use mathlib.Core.Path.{_≡_, refl, sym, ap, ap₂, _∙_, subst}
+use mathlib.Core.Path.{_≡_, refl, sym, ap, ap₂, _∙_}
 use mathlib.Core.List.{List, [], _∷_, _++_, append-assoc, append-nil}
-use mathlib.Core.Bool.{Bool, true, false}
-use lib.ListN.{length, take, drop, getD, length-append, length-drop, length-replicate}
+use lib.ListN.{length, take, drop, getD, length-append, length-drop}
 use lib.Seq.{take-at, drop-at, drop-drop, getD-drop}
-use lib.Dec.{ltb}
 use borrow.Author.Tests.{lt-ltb, le-ltb}
-use Rattle.format.specs.Format.{All, concatMap, list, text}
+use Rattle.format.specs.Format.{concatMap, list, text}
 use Rattle.spans.specs.Bytes.{zeros}
-use Rattle.lent.specs.Lent.{part, placed}
+use Rattle.lent.specs.Lent.{placed}
 use Rattle.model.specs.Event.{Text}
 use Rattle.model.specs.Maps.{if_then_else_}
 use Rattle.model.specs.Formats.{shortText}

@@ -1,17 +1,16 @@
 -- Writes to the slots: what each does to their bytes is what it does to their list. Assumes nothing.
 use Prim.Native.Nat.{ℕ, zero, suc, _+_, _-_, _*_, _≤_, _<_}
-use native.Mathlib.Nat.{mul-le-mul-right, suc-mul}
+use native.Mathlib.Nat.{mul-le-mul-right}
 use native.Mathlib.Omega.{arith}
-use mathlib.Core.Path.{_≡_, refl, sym, ap, ap₂, _∙_, subst}
+use mathlib.Core.Path.{_≡_, sym, ap, ap₂, _∙_, subst}
 use mathlib.Core.List.{List, [], _∷_, _++_, append-assoc}
-use lib.ListN.{length, take, drop, getD, set, length-append, length-set, length-take, length-drop, length-replicate, replicate-append-replicate, take-append-drop}
+use lib.ListN.{length, take, drop, getD, set, length-append, length-set, length-drop, length-replicate, replicate-append-replicate, take-append-drop}
 use lib.Seq.{getD-set-same, set-set, set-split, split-at, length-take-le, take-at, drop-at, drop-drop, drop-append-le}
 use Rattle.spans.specs.Bytes.{zeros}
 use Rattle.tables.specs.Table.{Table, flat, Sized, encTable, opened}
 use Rattle.tables.specs.Table.{without as without-slot}
 use Rattle.tables.proofs.Laws as tables
 use Rattle.lent.specs.Lent.{part, placed}
-use Rattle.lent.proofs.Laws as lent
 use Rattle.state.specs.Layout.{padded}
 use Rattle.state.proofs.Padded.{length-padded}
 use Rattle.waiting.specs.Slots.{Slots, HasSlots, EditsSlots, rewritten, inserted, Rewrites, Opens}

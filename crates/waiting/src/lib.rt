@@ -4,41 +4,75 @@ use spans::Order;
 use state::Numbered;
 use tables::Place;
 ghost use mathlib.Core.Path.{_≡_};
-ghost use mathlib.Core.Bool.{true, false};
-ghost use Prim.Native.Nat.{_+_, _*_, _≤_, _<_};
-ghost use lib.ListN.{length, take, drop, getD};
+ghost use mathlib.Core.List.{List, [], _∷_, _++_};
+ghost use Prim.Native.Nat.{_+_, _≤_, _<_};
+ghost use lib.ListN.{length, take, drop, getD, set};
+ghost use lib.Dec.{leb};
+ghost use Rattle.format.specs.Format.{All};
 ghost use Rattle.spans.specs.Compare.{order};
-ghost use Rattle.tables.specs.Table.{Holds, slotsOf, text};
+ghost use Rattle.tables.specs.Table.{Holds, slotsOf, text, flat};
 ghost use Rattle.lent.specs.Lent.{placed};
-ghost use Rattle.model.specs.Limits.{document01};
 ghost use Rattle.model.specs.Seam.{ResourceId};
+ghost use Rattle.model.specs.Parts.{Conflict, Refused};
+ghost use Rattle.model.specs.Edits.{Edit, Operation};
 ghost use Rattle.model.specs.State.{Pending};
+ghost use Rattle.model.specs.Limits.{document01};
+ghost use Rattle.model.specs.Maps.{is-some-and, map};
 ghost use Rattle.model.specs.Formats.{resourceId};
-ghost use Rattle.state.specs.Layout.{padded, pending-slot};
+ghost use Rattle.model.specs.Sync.{as-collided, without-plan, change-front, new-pending, absorb, due};
+ghost use Rattle.state.specs.Layout.{padded, name-slot, pending-slot};
 ghost use Rattle.state.specs.Fits.{PendingFits};
 ghost use Rattle.state.specs.Contract.{HasState, Reads, Edits, Tries};
-ghost use Rattle.state.specs.Values.{name-of, Named};
-ghost use mathlib.Core.List.{List};
-ghost use Rattle.model.specs.Parts.{Conflict, Refused};
-ghost use mathlib.Core.List.{[], _∷_, _++_};
-ghost use lib.ListN.{set};
-ghost use lib.Dec.{leb};
-ghost use Rattle.model.specs.Edits.{Edit, Operation};
-ghost use Rattle.model.specs.Sync.{as-collided, without-plan, change-front, new-pending, absorb};
+ghost use Rattle.state.specs.Values.{name-of, Named, number-in, bits-in};
 ghost use Rattle.waiting.specs.Queues.{below, nth, queue, put-queue, all-entries, without, planned, change-last, may-absorb, renamed, joined, moved};
 ghost use Rattle.waiting.specs.Slots.{HasSlots, ReadsSlots, EditsSlots, Rewrites, Opens, counts, tallied, new-fields, more-fields};
 ghost use Rattle.waiting.specs.Entries.{FindsEntry, ListsResources, PlanBytes, EditBytes, IsEdit, FoldBytes};
 ghost use Rattle.waiting.specs.Texts.{text-end, texts-end};
 ghost use Rattle.waiting.specs.Reading.{entry-byte, operation-case-of, by-attendee, expiry-of, ids-number, ReadsId};
-ghost use Rattle.model.specs.Maps.{is-some-and};
-ghost use Rattle.model.specs.Sync.{due};
-ghost use Rattle.state.specs.Values.{number-in, bits-in};
 
 const EDITS: usize = 20002;
 
 const EDITS_SIZE: usize = 35641;
 
 const EDITS_SLOT: usize = 5940;
+
+// entries of all queues, and ids that one of them may absorb
+const WAITING_LIMIT: usize = 6;
+
+const ABSORBED_LIMIT: u8 = 8;
+
+// Where the fields stand in a slot, and their widths.
+const NAME_WIDTH: usize = 33;
+
+const ID: usize = 33;
+
+const OPERATION: usize = 66;
+
+const OPERATION_WIDTH: usize = 1469;
+
+const ROLE: usize = 1535;
+
+const ROLE_WIDTH: usize = 34;
+
+const EXPIRY: usize = 1569;
+
+const EXPIRY_BITS: usize = 1570;
+
+const EXPIRY_WIDTH: usize = 9;
+
+const CONFLICTS: usize = 1578;
+
+const CONFLICTS_WIDTH: usize = 3072;
+
+const REFUSED: usize = 4650;
+
+const REFUSED_WIDTH: usize = 1024;
+
+const COLLIDED: usize = 5674;
+
+const ABSORBED: usize = 5675;
+
+const ABSORBED_IDS: usize = 5676;
 
 // The resources that have a queue, in order: so many names of 33 bytes.
 pub struct ResourceNames {
@@ -156,11 +190,20 @@ pub fn resources(work: &[u8]) -> ResourceNames
     while i < total {
         let name = names::name_at(work, EDITS + (1 + i * EDITS_SLOT));
         let key = name.bytes;
-        tables::put_slot(&mut bytes, count * 33, &key);
+        tables::put_slot(&mut bytes, count * NAME_WIDTH, &key);
         i += waiting_count(work, name);
         count += 1;
     }
     ResourceNames { count, bytes }
+}
+
+// The k-th of them, counted from 0.
+pub fn resource_name(names: ResourceNames, k: usize) -> Name
+    requires { ⌜ (k < 6) × (length (names .bytes) ≡ 198) ⌝ }
+    ensures { λ r. ⌜ ((ks : List ResourceId) → All (resourceId .Ok) ks → names .bytes ≡ padded 198 (flat (map name-slot ks)) → k < length ks → Named (r .bytes) × (name-of (r .bytes) ≡ getD ks k [])) ⌝ }
+{
+    let bytes = names.bytes;
+    names::name_at(&bytes, k * NAME_WIDTH)
 }
 
 // ---- writing slots
@@ -223,7 +266,7 @@ pub fn set_collided(work: &mut [u8], name: Name)
     }
     let i = entries_before(work, name);
     let one = [1u8; 1];
-    write_field(work, i, 5674, 1, &one);
+    write_field(work, i, COLLIDED, 1, &one);
 }
 
 // The reports of a merge into the head of a queue.
@@ -237,8 +280,8 @@ pub fn set_plan(work: &mut [u8], name: Name, conflicts: &[u8], refused: &[u8])
         return;
     }
     let i = entries_before(work, name);
-    write_field(work, i, 1578, 3072, conflicts);
-    write_field(work, i, 4650, 1024, refused);
+    write_field(work, i, CONFLICTS, CONFLICTS_WIDTH, conflicts);
+    write_field(work, i, REFUSED, REFUSED_WIDTH, refused);
 }
 
 // The head of a queue without a merge's reports.
@@ -266,11 +309,11 @@ fn fill_entry(
     ensures { λ _. ⌜ EditsSlots (λ t. set t i (new-fields (name .bytes) (now (id .entry)) (now (operation .entry)) (now (role .entry)) (now (expiry .entry)) (getD t i []))) (now (work .entry)) (now (work .exit)) ⌝ }
 {
     let key = name.bytes;
-    write_field(work, i, 0, 33, &key);
-    write_field(work, i, 33, 33, id);
-    write_field(work, i, 66, 1469, operation);
-    write_field(work, i, 1535, 34, role);
-    write_field(work, i, 1569, 9, expiry);
+    write_field(work, i, 0, NAME_WIDTH, &key);
+    write_field(work, i, ID, NAME_WIDTH, id);
+    write_field(work, i, OPERATION, OPERATION_WIDTH, operation);
+    write_field(work, i, ROLE, ROLE_WIDTH, role);
+    write_field(work, i, EXPIRY, EXPIRY_WIDTH, expiry);
 }
 
 // An edit behind the others of its resource; false if that takes one entry more than the limit.
@@ -287,7 +330,7 @@ pub fn append(
     ensures { λ r. ⌜ ((e : Edit) → EditBytes e (name-of (name .bytes)) (now (id .entry)) (now (operation .entry)) (now (role .entry)) (now (expiry .entry)) → Tries (λ s. leb (all-entries (put-queue (name-of (name .bytes)) (queue (name-of (name .bytes)) s ++ (new-pending e ∷ [])) s)) 6) (λ s. put-queue (name-of (name .bytes)) (queue (name-of (name .bytes)) s ++ (new-pending e ∷ [])) s) (now (work .entry)) r (now (work .exit))) ⌝ }
 {
     let n = entries(work);
-    if 6 <= n {
+    if WAITING_LIMIT <= n {
         return false;
     }
     let i = entries_before(work, name) + waiting_count(work, name);
@@ -337,10 +380,10 @@ fn absorb_into(
 {
     let width = id.len();
     let counted = [count; 1];
-    write_field(work, i, 66, 1469, operation);
-    write_field(work, i, 1569, 9, expiry);
+    write_field(work, i, OPERATION, OPERATION_WIDTH, operation);
+    write_field(work, i, EXPIRY, EXPIRY_WIDTH, expiry);
     write_field(work, i, o, width, id);
-    write_field(work, i, 5675, 1, &counted);
+    write_field(work, i, ABSORBED, 1, &counted);
 }
 
 // Folds an edit into the newest entry of a queue; false if that entry has absorbed as many as it may.
@@ -355,11 +398,11 @@ pub fn fold(work: &mut [u8], name: Name, operation: &[u8], expiry: &[u8], id: &[
     }
     let i = entries_before(work, name) + (n - 1);
     let p = EDITS + (1 + i * EDITS_SLOT);
-    let count = work[p + 5675];
-    if 8 <= count {
+    let count = work[p + ABSORBED];
+    if ABSORBED_LIMIT <= count {
         return false;
     }
-    let end = texts_end(work, p + 5676, count as usize);
+    let end = texts_end(work, p + ABSORBED_IDS, count as usize);
     absorb_into(work, i, end - p, count + 1, operation, expiry, id);
     true
 }
@@ -385,7 +428,7 @@ fn join_entry(work: &mut [u8], name: Name, slot: &[u8])
     open_entry(work, i);
     write_field(work, i, 0, EDITS_SLOT, slot);
     let key = name.bytes;
-    write_field(work, i, 0, 33, &key);
+    write_field(work, i, 0, NAME_WIDTH, &key);
 }
 
 // The j-th entry of one queue, if it has so many, leaves it and joins another.
@@ -428,7 +471,7 @@ pub fn operation_case(work: &[u8], name: Name, j: usize) -> u8
     requires { ⌜ Named (name .bytes) ⌝ }
     ensures { λ r. ⌜ Reads (λ s. operation-case-of (nth j (queue (name-of (name .bytes)) s))) (now (work .entry)) r ⌝ }
 {
-    entry_byte(work, name, j, 66, 3)
+    entry_byte(work, name, j, OPERATION, 3)
 }
 
 // Whether it is an attendee's.
@@ -437,7 +480,7 @@ pub fn is_attendee(work: &[u8], name: Name, j: usize) -> bool
     requires { ⌜ Named (name .bytes) ⌝ }
     ensures { λ r. ⌜ Reads (λ s. is-some-and (λ p. by-attendee (p .edit .role)) (nth j (queue (name-of (name .bytes)) s))) (now (work .entry)) r ⌝ }
 {
-    let role = entry_byte(work, name, j, 1535, 0);
+    let role = entry_byte(work, name, j, ROLE, 0);
     role == 1
 }
 
@@ -447,7 +490,7 @@ pub fn is_collided(work: &[u8], name: Name, j: usize) -> bool
     requires { ⌜ Named (name .bytes) ⌝ }
     ensures { λ r. ⌜ Reads (λ s. is-some-and (λ p. p .collided) (nth j (queue (name-of (name .bytes)) s))) (now (work .entry)) r ⌝ }
 {
-    let collided = entry_byte(work, name, j, 5674, 0);
+    let collided = entry_byte(work, name, j, COLLIDED, 0);
     collided == 1
 }
 
@@ -457,13 +500,13 @@ pub fn expiry(work: &[u8], name: Name, j: usize) -> Numbered
     requires { ⌜ Named (name .bytes) ⌝ }
     ensures { λ r. ⌜ Reads (λ s. bits-in (expiry-of (nth j (queue (name-of (name .bytes)) s)))) (now (work .entry)) (number-in r) ⌝ }
 {
-    let set = entry_byte(work, name, j, 1569, 0);
+    let set = entry_byte(work, name, j, EXPIRY, 0);
     if set == 0 {
         return Numbered::Nothing;
     }
     let i = entries_before(work, name) + j;
     let p = EDITS + (1 + i * EDITS_SLOT);
-    let bits = numbers::get_be(work, p + 1570);
+    let bits = numbers::get_be(work, p + EXPIRY_BITS);
     Numbered::Is(bits)
 }
 
@@ -491,7 +534,7 @@ pub fn ids_count(work: &[u8], name: Name, j: usize) -> usize
     requires { ⌜ Named (name .bytes) ⌝ }
     ensures { λ r. ⌜ Reads (λ s. ids-number (nth j (queue (name-of (name .bytes)) s))) (now (work .entry)) r ⌝ }
 {
-    let absorbed = entry_byte(work, name, j, 5675, 255);
+    let absorbed = entry_byte(work, name, j, ABSORBED, 255);
     if absorbed == 255 {
         return 0;
     }
@@ -523,8 +566,8 @@ pub fn entry_id(work: &[u8], name: Name, j: usize, k: usize) -> Name
     let i = entries_before(work, name) + j;
     let p = EDITS + (1 + i * EDITS_SLOT);
     if k == 0 {
-        return text_name(work, p + 33);
+        return text_name(work, p + ID);
     }
-    let at = texts_end(work, p + 5676, k - 1);
+    let at = texts_end(work, p + ABSORBED_IDS, k - 1);
     text_name(work, at)
 }

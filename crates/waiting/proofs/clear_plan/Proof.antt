@@ -1,13 +1,6 @@
-use lib.ListN.{length, take, drop, getD, set}
-use Prim.Native.Nat.{ℕ, _+_, _-_, _*_, _≤_, _<_}
-use mathlib.Core.Path.{_≡_, refl, sym, ap, _∙_, subst}
-use Rattle.tables.proofs.Laws as tables
-use Rattle.state.proofs.Ops as ops
-use Rattle.waiting.proofs.Splices as splices
+use Prim.Native.Nat.{_-_}
 use Rattle.waiting.proofs.Laws as laws
-use Rattle.waiting.proofs.Writes as writes
 use Rattle.state.specs.Values.{name-of}
-use native.Mathlib.Omega.{arith}
 use borrow.Author.Needs.{needs}
 use Rattle.waiting.proofs.clear_plan.Statement.{statement}
 use Rattle.waiting.proofs.clear_plan.Tie as tie

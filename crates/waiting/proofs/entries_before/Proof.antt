@@ -1,10 +1,7 @@
-use lib.ListN.{length, take, drop, getD, set}
-use Prim.Native.Nat.{ℕ, _+_, _-_, _*_, _≤_, _<_}
-use mathlib.Core.Path.{_≡_, refl, sym, ap, _∙_, subst}
-use Rattle.tables.proofs.Laws as tables
+use Prim.Native.Nat.{_-_}
+use mathlib.Core.Path.{refl}
 use Rattle.state.proofs.Ops as ops
 use Rattle.waiting.proofs.Splices as splices
-use Rattle.waiting.proofs.Laws as laws
 use native.Mathlib.Omega.{arith}
 use borrow.Author.Needs.{needs}
 use Rattle.waiting.proofs.entries_before.Statement.{statement}

@@ -1,11 +1,7 @@
-use lib.ListN.{length, take, drop, getD, set}
-use Prim.Native.Nat.{ℕ, _+_, _-_, _*_, _≤_, _<_}
-use mathlib.Core.Path.{_≡_, refl, sym, ap, _∙_, subst}
-use Rattle.tables.proofs.Laws as tables
-use Rattle.state.proofs.Ops as ops
-use Rattle.waiting.proofs.Splices as splices
+use lib.ListN.{length}
+use Prim.Native.Nat.{_-_}
+use mathlib.Core.Path.{_≡_, refl, _∙_}
 use Rattle.waiting.proofs.Laws as laws
-use Rattle.waiting.proofs.Writes as writes
 use Rattle.model.specs.State.{SyncState}
 use Rattle.state.specs.Contract.{Keeps}
 use Rattle.waiting.proofs.Keys as keys

@@ -1,9 +1,7 @@
-use lib.ListN.{length, take, drop, getD, set}
-use Prim.Native.Nat.{ℕ, _+_, _-_, _*_, _≤_, _<_}
-use mathlib.Core.Path.{_≡_, refl, sym, ap, _∙_, subst}
+use lib.ListN.{length, drop}
+use Prim.Native.Nat.{_+_, _-_, _*_, _≤_}
+use mathlib.Core.Path.{_≡_, sym}
 use Rattle.tables.proofs.Laws as tables
-use Rattle.state.proofs.Ops as ops
-use Rattle.waiting.proofs.Splices as splices
 use Rattle.waiting.proofs.Laws as laws
 use native.Mathlib.Nat.{zero-add}
 use Rattle.tables.specs.Table.{chunks, slotsOf}

@@ -1,12 +1,8 @@
-use lib.ListN.{length, take, drop, getD, set}
-use Prim.Native.Nat.{ℕ, _+_, _-_, _*_, _≤_, _<_}
-use mathlib.Core.Path.{_≡_, refl, sym, ap, _∙_, subst}
+use Prim.Native.Nat.{_-_}
 use Rattle.tables.proofs.Laws as tables
-use Rattle.state.proofs.Ops as ops
 use Rattle.waiting.proofs.Splices as splices
 use Rattle.waiting.proofs.Laws as laws
 use Rattle.lent.proofs.Laws as lent
-use native.Mathlib.Omega.{arith}
 use borrow.Author.Needs.{needs}
 use Rattle.waiting.proofs.tally_in.Statement.{statement}
 use Rattle.waiting.proofs.tally_in.Tie as tie
