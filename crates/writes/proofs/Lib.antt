@@ -1,0 +1,4 @@
+-- Requests to write.
+pub mod Requests
+-- The parts of an entry that a merge is lent, and what it fills.
+pub mod Merges

@@ -1,0 +1,30 @@
+-- What a merge of a waiting entry is planned from, by its bytes in the work buffer, and the arrays that a merge fills. Assumes nothing.
+use Prim.Native.Nat.{ℕ, _+_, _≤_}
+use mathlib.Core.Path.{_≡_}
+use mathlib.Core.List.{List}
+use lib.ListN.{length, take}
+use Rattle.model.specs.Event.{NormalizedEvent, ProviderEvent}
+use Rattle.model.specs.Parts.{Role}
+use Rattle.model.specs.Formats.{fieldsF}
+use Rattle.frame.specs.Read.{skips, start}
+use Rattle.comparison.specs.Bytes.{span}
+use Rattle.merge.specs.Given.{Given}
+
+-- the entry at `at`: its operation behind its case, where base stands first, and then ours
+unfoldable pub operation-part : List ℕ → ℕ → List ℕ
+operation-part w at = span w (at + 67) (at + 1535)
+
+unfoldable pub ours-part : List ℕ → ℕ → List ℕ
+ours-part w at = span (operation-part w at) (skips fieldsF (operation-part w at) start .at) 1468
+
+unfoldable pub role-part : List ℕ → ℕ → List ℕ
+role-part w at = span w (at + 1535) (at + 1569)
+
+-- the entry is an update from b to o by a writer, and the bytes are the event t
+abbrev pub GivenAt : (w : List ℕ) (at : ℕ) (theirs : List ℕ) (b o : NormalizedEvent) (t : ProviderEvent) (by : Role) → Type 0
+GivenAt w at theirs b o t by = Given (operation-part w at) (ours-part w at) theirs (role-part w at) b o t by
+
+-- the first n bytes of an array are x
+pub record Filled (a : List ℕ) (n : ℕ) (x : List ℕ) : Type 0 where
+  pub fits : n ≤ length a
+  pub bytes : take n a ≡ x

@@ -1,0 +1,162 @@
+// sync.rs, the writing half: planning from a read, the answers to writes, and entries that follow a resource to another name.
+use frame::Cursor;
+use machine::Progress;
+use names::Name;
+use pens::Pen;
+use state::Kind;
+ghost use mathlib.Core.Path.{_≡_};
+ghost use mathlib.Core.Option.{Option};
+ghost use Prim.Native.Nat.{_+_, _≤_};
+ghost use lib.ListN.{length};
+ghost use Rattle.format.specs.Format.{option};
+ghost use Rattle.model.specs.Event.{ProviderRevision, NormalizedEvent, ProviderEvent};
+ghost use Rattle.model.specs.Parts.{Role};
+ghost use Rattle.model.specs.Seam.{Request};
+ghost use Rattle.model.specs.State.{Purpose};
+ghost use Rattle.model.specs.Limits.{max-attendees};
+ghost use Rattle.model.specs.Formats.{shortText, eventF, conflictsF, refusalsF};
+ghost use Rattle.model.specs.Merge.{merge};
+ghost use Rattle.model.specs.Machine.{request};
+ghost use Rattle.state.specs.Contract.{HasState};
+ghost use Rattle.state.specs.Values.{name-of, Named};
+ghost use Rattle.machine.specs.Contract.{Does};
+ghost use Rattle.writes.specs.Plans.{operation-part, ours-part, role-part, GivenAt, Filled};
+
+// ---- requests
+
+pub fn request_update(
+    work: &mut [u8],
+    out: &mut [u8],
+    p: Progress,
+    name: Name,
+    revision: &[u8],
+    event: &[u8],
+) -> Progress
+    requires { ⌜ HasState (now work) ⌝ }
+    requires { ⌜ Named (name .bytes) ⌝ }
+    ensures { λ r. ⌜ ((v : Option ProviderRevision) (e : ProviderEvent) → now (revision .entry) ≡ option shortText .enc v → now (event .entry) ≡ eventF .enc e → Does (request (Purpose.EditWrite (name-of (name .bytes))) (Request.Update (name-of (name .bytes)) v e)) (now (work .entry)) (now (out .entry)) p r (now (work .exit)) (now (out .exit))) ⌝ }
+{
+    let id = state::next_request(work);
+    let q = machine::reserve(work, p, Kind::EditWrite, name);
+    let key = name.bytes;
+    let pen = effects::update(
+        machine::pen_of(q),
+        out,
+        id,
+        machine::text_of(&key),
+        revision,
+        event,
+    );
+    machine::sent(q, pen)
+}
+
+pub fn request_delete(
+    work: &mut [u8],
+    out: &mut [u8],
+    p: Progress,
+    name: Name,
+    revision: &[u8],
+) -> Progress
+    requires { ⌜ HasState (now work) ⌝ }
+    requires { ⌜ Named (name .bytes) ⌝ }
+    ensures { λ r. ⌜ ((v : Option ProviderRevision) → now (revision .entry) ≡ option shortText .enc v → Does (request (Purpose.EditWrite (name-of (name .bytes))) (Request.Delete (name-of (name .bytes)) v)) (now (work .entry)) (now (out .entry)) p r (now (work .exit)) (now (out .exit))) ⌝ }
+{
+    let id = state::next_request(work);
+    let q = machine::reserve(work, p, Kind::EditWrite, name);
+    let key = name.bytes;
+    let pen = effects::delete(
+        machine::pen_of(q),
+        out,
+        id,
+        machine::text_of(&key),
+        revision,
+    );
+    machine::sent(q, pen)
+}
+
+// ---- a merge of the entry at a place of the work buffer with an encoded event
+
+// The entry's operation behind its case: where it is an update, base and then ours.
+fn operation_part(work: &[u8], at: usize) -> &[u8]
+    requires { ⌜ at + 5940 ≤ 55643 ⌝ }
+    ensures { λ r. ⌜ now r ≡ operation-part (now (work .entry)) at ⌝ }
+{
+    comparison::part(work, at + 67, at + 1535)
+}
+
+fn ours_part(work: &[u8], at: usize) -> &[u8]
+    requires { ⌜ at + 5940 ≤ 55643 ⌝ }
+    ensures { λ r. ⌜ now r ≡ ours-part (now (work .entry)) at ⌝ }
+{
+    let s = operation_part(work, at);
+    let base = Cursor { at: 0, ok: true }.fields(s);
+    let from = base.at;
+    comparison::part(s, from, 1468)
+}
+
+fn role_part(work: &[u8], at: usize) -> &[u8]
+    requires { ⌜ at + 5940 ≤ 55643 ⌝ }
+    ensures { λ r. ⌜ now r ≡ role-part (now (work .entry)) at ⌝ }
+{
+    comparison::part(work, at + 1535, at + 1569)
+}
+
+fn merged_attendees<'a>(work: &'a [u8], at: usize, theirs: &'a [u8]) -> u8
+    requires { ⌜ at + 5940 ≤ 55643 ⌝ }
+    ensures { λ r. ⌜ ((b o : NormalizedEvent) (t : ProviderEvent) (by : Role) → GivenAt (now (work .entry)) at (now (theirs .entry)) b o t by → r ≡ length ((merge b o t by) .event .fields .attendees)) ⌝ }
+{
+    merge::merged_attendees(
+        operation_part(work, at),
+        ours_part(work, at),
+        theirs,
+        role_part(work, at),
+    )
+}
+
+// The merged event; how many bytes it takes.
+fn put_event<'a>(out: &mut [u8], work: &'a [u8], at: usize, theirs: &'a [u8]) -> usize
+    requires { ⌜ (at + 5940 ≤ 55643) × (length (now out) ≡ 882) ⌝ }
+    ensures { λ r. ⌜ ((b o : NormalizedEvent) (t : ProviderEvent) (by : Role) → GivenAt (now (work .entry)) at (now (theirs .entry)) b o t by → length ((merge b o t by) .event .fields .attendees) ≤ max-attendees → Filled (now (out .exit)) r (eventF .enc ((merge b o t by) .event))) ⌝ }
+{
+    let pen = merge::merged_event(
+        Pen { at: 0, ok: true },
+        out,
+        operation_part(work, at),
+        ours_part(work, at),
+        theirs,
+        role_part(work, at),
+    );
+    pen.at
+}
+
+// The merge's conflicts; how many bytes they take.
+fn put_conflicts<'a>(out: &mut [u8], work: &'a [u8], at: usize, theirs: &'a [u8]) -> usize
+    requires { ⌜ (at + 5940 ≤ 55643) × (length (now out) ≡ 3072) ⌝ }
+    ensures { λ r. ⌜ ((b o : NormalizedEvent) (t : ProviderEvent) (by : Role) → GivenAt (now (work .entry)) at (now (theirs .entry)) b o t by → Filled (now (out .exit)) r (conflictsF .enc ((merge b o t by) .conflicts))) ⌝ }
+{
+    let pen = merge::conflicts(
+        Pen { at: 0, ok: true },
+        out,
+        operation_part(work, at),
+        ours_part(work, at),
+        theirs,
+        role_part(work, at),
+    );
+    pen.at
+}
+
+// The units that it refused; how many bytes they take.
+fn put_refused<'a>(out: &mut [u8], work: &'a [u8], at: usize, theirs: &'a [u8]) -> usize
+    requires { ⌜ (at + 5940 ≤ 55643) × (length (now out) ≡ 1024) ⌝ }
+    ensures { λ r. ⌜ ((b o : NormalizedEvent) (t : ProviderEvent) (by : Role) → GivenAt (now (work .entry)) at (now (theirs .entry)) b o t by → Filled (now (out .exit)) r (refusalsF .enc ((merge b o t by) .refused))) ⌝ }
+{
+    let pen = merge::refused(
+        Pen { at: 0, ok: true },
+        out,
+        operation_part(work, at),
+        ours_part(work, at),
+        theirs,
+        role_part(work, at),
+    );
+    pen.at
+}
