@@ -5,8 +5,9 @@ use names::Name;
 use pens::Pen;
 use state::Kind;
 ghost use mathlib.Core.Path.{_≡_};
+ghost use mathlib.Core.Bool.{false};
 ghost use mathlib.Core.Option.{Option};
-ghost use Prim.Native.Nat.{_+_, _≤_};
+ghost use Prim.Native.Nat.{_+_, _≤_, _<_};
 ghost use lib.ListN.{length};
 ghost use Rattle.format.specs.Format.{option};
 ghost use Rattle.model.specs.Event.{ProviderRevision, NormalizedEvent, ProviderEvent};
@@ -16,11 +17,14 @@ ghost use Rattle.model.specs.State.{Purpose};
 ghost use Rattle.model.specs.Limits.{max-attendees};
 ghost use Rattle.model.specs.Formats.{shortText, eventF, conflictsF, refusalsF};
 ghost use Rattle.model.specs.Merge.{merge};
-ghost use Rattle.model.specs.Machine.{request};
-ghost use Rattle.state.specs.Contract.{HasState};
+ghost use Rattle.model.specs.Maps.{same-text};
+ghost use Rattle.model.specs.Machine.{request, queue-of};
+ghost use Rattle.model.specs.Sync.{move-behind, remap, start-edit};
+ghost use Rattle.state.specs.Contract.{HasState, Edits};
 ghost use Rattle.state.specs.Values.{name-of, Named};
 ghost use Rattle.machine.specs.Contract.{Does};
 ghost use Rattle.writes.specs.Plans.{operation-part, ours-part, role-part, GivenAt, Filled};
+ghost use Rattle.writes.specs.Moves.{MovesOne, swept};
 
 // ---- requests
 
@@ -159,4 +163,47 @@ fn put_refused<'a>(out: &mut [u8], work: &'a [u8], at: usize, theirs: &'a [u8]) 
         role_part(work, at),
     );
     pen.at
+}
+
+// ---- SyncState::remap
+
+// Moves the j-th entry of one queue to another unless it creates; where the next one stands.
+fn move_one(work: &mut [u8], from: Name, j: usize, to: Name) -> usize
+    requires { ⌜ HasState (now work) ⌝ }
+    requires { ⌜ (Named (from .bytes)) × (Named (to .bytes)) × (j < 6) ⌝ }
+    ensures { λ r. ⌜ MovesOne (name-of (from .bytes)) j (name-of (to .bytes)) (now (work .entry)) r (now (work .exit)) ⌝ }
+{
+    let case = waiting::operation_case(work, from, j);
+    if case == 0 {
+        return j + 1;
+    }
+    waiting::move_entry(work, from, j, to);
+    j
+}
+
+// Moves the entries behind the head that do not create.
+fn move_entries(work: &mut [u8], from: Name, to: Name)
+    requires { ⌜ HasState (now work) ⌝ }
+    requires { ⌜ (Named (from .bytes)) × (Named (to .bytes)) ⌝ }
+    ensures { λ _. ⌜ Edits (swept (name-of (from .bytes)) (name-of (to .bytes))) (now (work .entry)) (now (work .exit)) ⌝ }
+{
+    let n = waiting::waiting_count(work, from);
+    if n == 0 {
+        return;
+    }
+    let mut left = n - 1;
+    let mut j = 1;
+    while 0 < left {
+        j = move_one(work, from, j, to);
+        left -= 1;
+    }
+}
+
+fn same_name(a: Name, b: Name) -> bool
+    requires { ⌜ (Named (a .bytes)) × (Named (b .bytes)) ⌝ }
+    ensures { λ r. ⌜ r ≡ same-text (name-of (a .bytes)) (name-of (b .bytes)) ⌝ }
+{
+    let x = a.bytes;
+    let y = b.bytes;
+    comparison::same(machine::text_of(&x), machine::text_of(&y))
 }
