@@ -1,0 +1,4 @@
+-- Parts of a buffer.
+pub mod Parts
+-- The head of a queue.
+pub mod Heads
