@@ -16,7 +16,7 @@ use Rattle.model.specs.Event.{Provider, ProviderEvent}
 use Rattle.model.specs.Seam.{ResourceId}
 use Rattle.model.specs.Seam as seam
 use Rattle.model.specs.Edits.{Operation}
-use Rattle.model.specs.Shapes.{operationFrom, eventFrom, idsFrom, providerFrom}
+use Rattle.model.specs.Shapes.{providerFrom}
 use Rattle.model.specs.Formats.{operationF, eventF, idsF, providerF}
 use Rattle.model.specs.State.{Pending, SyncState, Purpose}
 use Rattle.model.specs.Maps.{if_then_else_, is-some-and, first}
@@ -39,18 +39,18 @@ byte-of w x at width k e l = sym (getD-drop at w k 0) ∙ sym (getD-take width (
 -- ---- looks_up
 
 graph-byte : (p : Provider) → eqb (providerFrom p) 1 ≡ is-graph p
-unfolding providerFrom is-graph
+unfolding is-graph
 graph-byte Provider.Google = refl
 graph-byte Provider.Graph = refl
 graph-byte Provider.CalDav = refl
 graph-byte Provider.Ics = refl
 
 event-byte : (e : ProviderEvent) → getD (field 1469 operationF (Operation.Create e)) 1 0 ≡ providerFrom (e .ids .provider)
-unfolding operationF eventF idsF providerF via enum _∣_ _⊗_ below padded operationFrom eventFrom idsFrom
+unfolding operationF eventF idsF providerF via enum _∣_ _⊗_ below padded
 event-byte e = refl
 
 keyed-bytes : (o : Operation) → (eqb (getD (field 1469 operationF o) 0 0) 0 && eqb (getD (field 1469 operationF o) 1 0) 1) ≡ creates-under-key o
-unfolding operationF via enum _∣_ padded operationFrom creates-under-key assigns-ids
+unfolding operationF via enum _∣_ padded creates-under-key assigns-ids
 keyed-bytes (Operation.Create e) = ap (λ (n : ℕ). eqb n 1) (event-byte e) ∙ graph-byte (e .ids .provider)
 keyed-bytes (Operation.Update base ours) = refl
 keyed-bytes Operation.Delete = refl
@@ -96,7 +96,7 @@ module _ (r : ResourceId) {w o w′ o′ : List ℕ} {p q : Progress} {b : Bool}
   reads-as what e d =
       runs.is-held (read-for-edit r)
       (λ m h. ap (λ (x : seam.Request). request (Purpose.EditRead r) x m)
-          (sym e ∙ ap (λ (c : Bool). if c then seam.Request.Lookup r else seam.Request.Read r) (R .is (m .state) (h .keeps) ∙ ap (is-some-and (λ p. creates-under-key (p .edit .operation))) (head-is r m))))
+      (sym e ∙ ap (λ (c : Bool). if c then seam.Request.Lookup r else seam.Request.Read r) (R .is (m .state) (h .keeps) ∙ ap (is-some-and (λ p. creates-under-key (p .edit .operation))) (head-is r m))))
       d
 
   pub looked-up : b ≡ true → Does (request (Purpose.EditRead r) (seam.Request.Lookup r)) w o p q w′ o′ → Does (read-for-edit r) w o p q w′ o′

@@ -3,21 +3,25 @@ use Prim.Native.Nat.{ℕ, zero, suc}
 use mathlib.Core.Path.{_≡_}
 use mathlib.Core.List.{List}
 use mathlib.Core.Option.{Option, none, some}
+use mathlib.Core.Bool.{Bool, true, false}
 use lib.ListN.{take}
 use Rattle.model.specs.Event.{Text, ProviderEvent}
 use Rattle.model.specs.Seam.{ResourceId, RequestId}
 use Rattle.model.specs.Seam as seam
+use Rattle.model.specs.Parts.{Role}
 use Rattle.model.specs.Edits.{Operation}
 use Rattle.model.specs.Calls.{Rejection, Notice, Effect}
 use Rattle.model.specs.State.{Pending, SyncState}
 use Rattle.model.specs.Machine.{Machine, Run, ok, for-each, match_none:_some:_, tell, push}
-use Rattle.model.specs.Sync.{describe, head, ids-of, ending, notify}
+use Rattle.model.specs.Sync.{describe, head, ids-of, ending, notify, assigns-ids, is-attendee}
 use Rattle.frame.specs.Meaning.{meantOutcome}
 use Rattle.effects.specs.Told.{meantRefusal}
 use Rattle.waiting.specs.Queues.{queue, nth}
 use Rattle.waiting.specs.Reading.{nth-id}
 use Rattle.machine.specs.declared.Progress.{Progress}
 use Rattle.machine.specs.Contract.{Holds, Ran}
+use Rattle.queues.specs.declared.Beginning.{Beginning}
+use Rattle.queues.specs.declared.Beginning.the-variants as Begin
 use Rattle.queues.specs.declared.Ending.{Ending}
 use Rattle.queues.specs.declared.Ending.the-variants.{Applied, Rejected, By}
 
@@ -26,6 +30,25 @@ abbrev pub rejection-of : List ℕ → Ending → Option Rejection
 rejection-of frame Applied = none
 rejection-of frame (Rejected refusal) = some (meantRefusal refusal)
 rejection-of frame (By outcome) = some (Rejection.Provider (describe (meantOutcome frame outcome)))
+
+-- ---- how a head begins, as `start-head` has it
+
+abbrev pub begins-write : Bool → Beginning
+begins-write true = Begin.Read
+begins-write false = Begin.Create
+
+abbrev pub begins-delete : Bool → Beginning
+begins-delete true = Begin.NotOwner
+begins-delete false = Begin.Read
+
+unfoldable pub begins-by : Operation → Role → Beginning
+begins-by (Operation.Create event) role = begins-write (assigns-ids event)
+begins-by (Operation.Update base ours) role = Begin.Read
+begins-by Operation.Delete role = begins-delete (is-attendee role)
+
+unfoldable pub begins-as : Option Pending → Beginning
+begins-as none = Begin.Nothing
+begins-as (some p) = begins-by (p .edit .operation) (p .edit .role)
 
 -- ---- effects that the state gives
 

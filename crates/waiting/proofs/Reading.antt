@@ -157,16 +157,16 @@ pub number-none : (r : ResourceId) (w : List ℕ) (v j : ℕ) → resourceId .Ok
 unfolding ids-number
 number-none r w v j k R l = entry-cases r w 5675 255 v j 0 ids-number R (λ e. refl)
     (λ s h p g ok e.
-        let c : getD (Slot r p) 5675 0 ≡ length (p .absorbed) = count-of r p k ok in
-        let f : length (p .absorbed) ≤ 8 = few-ids r p ok in
-        absurd (omega arith))
+    let c : getD (Slot r p) 5675 0 ≡ length (p .absorbed) = count-of r p k ok in
+    let f : length (p .absorbed) ≤ 8 = few-ids r p ok in
+    absurd (omega arith))
 
 pub number-some : (r : ResourceId) (w : List ℕ) (v j : ℕ) → resourceId .Ok r → Reads (λ s. entry-byte r 5675 255 (nth j (queue r s))) w v → (v ≡ 255 → ⊥) → Reads (λ s. ids-number (nth j (queue r s))) w (1 + v)
 unfolding ids-number ids-of
 number-some r w v j k R l = entry-cases r w 5675 255 v j (1 + v) ids-number R (λ e. absurd (l e))
     (λ s h p g ok e.
-        let c : getD (Slot r p) 5675 0 ≡ length (p .absorbed) = count-of r p k ok in
-        omega arith)
+    let c : getD (Slot r p) 5675 0 ≡ length (p .absorbed) = count-of r p k ok in
+    omega arith)
 
 -- ---- the expiry
 
