@@ -6,3 +6,5 @@ pub mod Merges
 pub mod Inserts
 pub mod Moves
 pub mod Behind
+-- Planning.
+pub mod Plans

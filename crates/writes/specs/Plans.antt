@@ -4,8 +4,12 @@ use mathlib.Core.Path.{_≡_}
 use mathlib.Core.List.{List}
 use lib.ListN.{length, take}
 use Rattle.model.specs.Event.{NormalizedEvent, ProviderEvent}
-use Rattle.model.specs.Parts.{Role}
+use Rattle.model.specs.Parts.{Role, MergeOutcome}
+use Rattle.model.specs.Seam.{ResourceId}
+use Rattle.model.specs.State.{SyncState}
 use Rattle.model.specs.Formats.{fieldsF}
+use Rattle.model.specs.Sync.{change-front}
+use Rattle.waiting.specs.Queues.{queue, put-queue, planned}
 use Rattle.frame.specs.Read.{skips, start}
 use Rattle.comparison.specs.Bytes.{span}
 use Rattle.merge.specs.Given.{Given}
@@ -28,3 +32,7 @@ GivenAt w at theirs b o t by = Given (operation-part w at) (ours-part w at) thei
 pub record Filled (a : List ℕ) (n : ℕ) (x : List ℕ) : Type 0 where
   pub fits : n ≤ length a
   pub bytes : take n a ≡ x
+
+-- the head of a queue with a merge's reports
+abbrev pub with-merge : ResourceId → MergeOutcome → SyncState → SyncState
+with-merge r merged s = put-queue r (change-front (planned (merged .conflicts) (merged .refused)) (queue r s)) s

@@ -15,7 +15,7 @@ ghost use Rattle.model.specs.Parts.{Role};
 ghost use Rattle.model.specs.Seam.{Request};
 ghost use Rattle.model.specs.State.{Purpose};
 ghost use Rattle.model.specs.Limits.{max-attendees};
-ghost use Rattle.model.specs.Formats.{shortText, eventF, conflictsF, refusalsF};
+ghost use Rattle.model.specs.Formats.{same, shortText, fieldsF, eventF, conflictsF, refusalsF};
 ghost use Rattle.model.specs.Merge.{merge};
 ghost use Rattle.model.specs.Maps.{same-text};
 ghost use Rattle.model.specs.Machine.{request, queue-of};
@@ -23,7 +23,8 @@ ghost use Rattle.model.specs.Sync.{move-behind, remap, start-edit};
 ghost use Rattle.state.specs.Contract.{HasState, Edits};
 ghost use Rattle.state.specs.Values.{name-of, Named};
 ghost use Rattle.machine.specs.Contract.{Does};
-ghost use Rattle.writes.specs.Plans.{operation-part, ours-part, role-part, GivenAt, Filled};
+ghost use Rattle.merge.specs.Given.{Begins};
+ghost use Rattle.writes.specs.Plans.{operation-part, ours-part, role-part, GivenAt, Filled, with-merge};
 ghost use Rattle.writes.specs.Moves.{MovesOne, swept};
 
 // ---- requests
@@ -163,6 +164,41 @@ fn put_refused<'a>(out: &mut [u8], work: &'a [u8], at: usize, theirs: &'a [u8]) 
         role_part(work, at),
     );
     pen.at
+}
+
+// The merge's reports into the head of a queue.
+fn plan_head(work: &mut [u8], name: Name, at: usize, theirs: &[u8])
+    requires { ⌜ HasState (now work) ⌝ }
+    requires { ⌜ (Named (name .bytes)) × (at + 5940 ≤ 55643) ⌝ }
+    ensures { λ _. ⌜ ((b o : NormalizedEvent) (t : ProviderEvent) (by : Role) → GivenAt (now (work .entry)) at (now (theirs .entry)) b o t by → Edits (with-merge (name-of (name .bytes)) (merge b o t by)) (now (work .entry)) (now (work .exit))) ⌝ }
+{
+    let mut conflicts = [0u8; 3072];
+    let m = put_conflicts(&mut conflicts, work, at, theirs);
+    let mut refused = [0u8; 1024];
+    let n = put_refused(&mut refused, work, at, theirs);
+    let a = comparison::part(&conflicts, 0, m);
+    let b = comparison::part(&refused, 0, n);
+    waiting::set_plan(work, name, a, b);
+}
+
+// An event's revision.
+fn revision_of(event: &[u8]) -> &[u8]
+    ensures { λ r. ⌜ ((t : ProviderEvent) → Begins eventF (now (event .entry)) t → now r ≡ option shortText .enc (t .revision)) ⌝ }
+{
+    let from = Cursor { at: 0, ok: true }.ids(event);
+    let to = from.option_short_text(event);
+    let start = from.at;
+    let end = to.at;
+    comparison::part(event, start, end)
+}
+
+// Whether the event that an entry creates has the fields of an encoded event.
+fn same_fields(work: &[u8], at: usize, theirs: &[u8]) -> bool
+    requires { ⌜ at + 5940 ≤ 55643 ⌝ }
+    ensures { λ r. ⌜ ((e t : ProviderEvent) → Begins eventF (operation-part (now (work .entry)) at) e → Begins eventF (now (theirs .entry)) t → r ≡ same fieldsF (t .fields) (e .fields)) ⌝ }
+{
+    let ours = operation_part(work, at);
+    comparison::same(merge::fields_of(theirs), merge::fields_of(ours))
 }
 
 // ---- SyncState::remap

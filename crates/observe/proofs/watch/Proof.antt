@@ -1,0 +1,25 @@
+use Rattle.observe.proofs.Reading as reading
+use Rattle.machine.proofs.Steps as steps
+use native.Mathlib.Omega.{arith}
+use borrow.Author.Needs.{needs}
+use Rattle.observe.proofs.watch.Statement.{statement}
+use Rattle.observe.proofs.watch.Tie as tie
+use Rattle.observe.proofs.watch.Reads as reads
+use Rattle.observe.proofs.watch.Lts as lts
+use Rattle.machine.proofs.tried.Reads as tried-reads
+use Rattle.pass_tables.proofs.add_observed.Reads as add-observed-reads
+
+add-observed-requires : tie.Need-add-observed-requires
+add-observed-requires c κs = search needs
+
+tried-requires : tie.Need-tried-requires
+tried-requires c κs = search needs
+
+same-length : tie.Need-same-length
+same-length c = search needs
+
+returns : tie.Need-returns
+returns c = steps.changed (c .tried .ensures) (reading.watched-tries (c .before .before .before .before .before .before .args .p) _ (c .before .before .before .add-observed .ensures))
+
+pub watch-spec : {M : Type 1} → statement M
+watch-spec = tie.close (tie.spec add-observed-requires tried-requires same-length returns)
