@@ -26,7 +26,7 @@ use Rattle.state.specs.Layout.{padded, field}
 use Rattle.state.specs.Contract.{Keeps, HasState, Reads}
 use Rattle.waiting.specs.Queues.{queue, queue-in, nth}
 use Rattle.waiting.specs.Entries.{EntryAt, SomeEntryAt, EntryIs, FindsEntry}
-use Rattle.waiting.proofs.Cuts.{queue-is}
+use Rattle.waiting.proofs.Bridge.{queue-is}
 use Rattle.machine.specs.declared.Progress.{Progress}
 use Rattle.machine.specs.Contract.{Does}
 use Rattle.machine.proofs.Runs as runs

@@ -31,7 +31,7 @@ use Rattle.state.proofs.Regions.{layout-same}
 use Rattle.waiting.specs.Queues.{queue, queue-in, put-in, put-queue, nth, without}
 use Rattle.waiting.specs.Reading.{case-of, operation-case-of, by-attendee}
 use Rattle.waiting.specs.Slots.{tallied}
-use Rattle.waiting.proofs.Cuts.{queue-is, put-is}
+use Rattle.waiting.proofs.Bridge.{queue-is, put-is}
 use Rattle.waiting.proofs.Splices as splices
 use Rattle.waiting.proofs.Laws as waiting
 use Rattle.machine.specs.declared.Progress.{Progress}

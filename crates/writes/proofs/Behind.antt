@@ -36,7 +36,7 @@ kept R = filter (λ q. is-create (q .edit .operation)) R
 abbrev left : Queue → Queue
 left R = filter (λ q. not (is-create (q .edit .operation))) R
 
-set-queue-is : (r : ResourceId) (q : Queue) (m : Machine) → set-queue r q m ≡ with-state (put-queue r q (m .state)) m
+pub set-queue-is : (r : ResourceId) (q : Queue) (m : Machine) → set-queue r q m ≡ with-state (put-queue r q (m .state)) m
 unfolding set-queue put-in set-edits
 set-queue-is r [] m = refl
 set-queue-is r (p ∷ q) m = refl
@@ -241,6 +241,13 @@ alias : {w w′ : List ℕ} {b : Bool} (p : Progress) (from to : ResourceId)
     → Changes (λ m. within (m .limits .aliases) (insert by-name from to (m .state .aliases)) set-aliases m) w p (tried-by p b) w′
 unfolding within set-aliases document01
 alias p from to T = steps.tries (λ m. within (m .limits .aliases) (insert by-name from to (m .state .aliases)) set-aliases m) p T (λ m l h. rw l)
+
+pub alias-state : {f : SyncState → SyncState} {t : SyncState → Bool} {w w′ : List ℕ} {b : Bool} → Tries t f w b w′ → HasState w → HasState w′
+alias-state {f} {w′ = w′} {b} T H = go b refl
+  where
+    go : (c : Bool) → b ≡ c → HasState w′
+    go true k = record { state = f (H .state); keeps = T .makes (H .state) (H .keeps) k }
+    go false k = record { state = H .state; keeps = T .stays (H .state) (H .keeps) k }
 
 pub remaps : (from to : ResourceId) {w o w₁ o₁ w₂ o₂ : List ℕ} {p q r t : Progress} {b c : Bool} → b ≡ same-text from to → b ≡ false
     → Tries (λ s. leb (length (insert by-name from to (s .aliases))) 8) (λ s. with-aliases (insert by-name from to (s .aliases)) s) w c w₁

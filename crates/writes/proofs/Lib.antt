@@ -8,3 +8,5 @@ pub mod Moves
 pub mod Behind
 -- Planning.
 pub mod Plans
+pub mod Entries
+pub mod Planning

@@ -2,14 +2,19 @@
 use Prim.Native.Nat.{ℕ, _+_, _≤_}
 use mathlib.Core.Path.{_≡_}
 use mathlib.Core.List.{List}
+use mathlib.Core.Option.{Option, none, some}
 use lib.ListN.{length, take}
 use Rattle.model.specs.Event.{NormalizedEvent, ProviderEvent}
 use Rattle.model.specs.Parts.{Role, MergeOutcome}
-use Rattle.model.specs.Seam.{ResourceId}
-use Rattle.model.specs.State.{SyncState}
+use Rattle.model.specs.Seam.{ResourceId, Request}
+use Rattle.model.specs.State.{SyncState, Purpose}
+use Rattle.model.specs.Maps.{if_then_else_}
+use Rattle.model.specs.Machine.{Machine, Run, ok, request, match_none:_some:_}
 use Rattle.model.specs.Formats.{fieldsF}
-use Rattle.model.specs.Sync.{change-front}
-use Rattle.waiting.specs.Queues.{queue, put-queue, planned}
+use Rattle.model.specs.Sync.{change-front, head, plan, finish}
+use Rattle.state.specs.Contract.{Reads}
+use Rattle.waiting.specs.Queues.{queue, put-queue, planned, nth}
+use Rattle.waiting.specs.Reading.{operation-case-of}
 use Rattle.frame.specs.Read.{skips, start}
 use Rattle.comparison.specs.Bytes.{span}
 use Rattle.merge.specs.Given.{Given}
@@ -36,3 +41,26 @@ pub record Filled (a : List ℕ) (n : ℕ) (x : List ℕ) : Type 0 where
 -- the head of a queue with a merge's reports
 abbrev pub with-merge : ResourceId → MergeOutcome → SyncState → SyncState
 with-merge r merged s = put-queue r (change-front (planned (merged .conflicts) (merged .refused)) (queue r s)) s
+
+-- some update and some event
+pub record HasGiven (w : List ℕ) (at : ℕ) (theirs : List ℕ) : Type 0 where
+  pub base : NormalizedEvent
+  pub ours : NormalizedEvent
+  pub event : ProviderEvent
+  pub role : Role
+  pub given : GivenAt w at theirs base ours event role
+
+-- the case of the head's operation
+abbrev pub HeadCase : ResourceId → List ℕ → ℕ → Type 0
+HeadCase r w c = Reads (λ s. operation-case-of (nth 0 (queue r s))) w c
+
+-- `plan-update` from its merge on
+unfoldable pub send-merged : ResourceId → ProviderEvent → MergeOutcome → Machine → Run
+send-merged r theirs merged m =
+    if merged .changed
+    then request (Purpose.EditWrite r) (Request.Update r (theirs .revision) (merged .event)) m
+    else finish r none m
+
+-- the last line of `edit-read-found`
+unfoldable pub plan-head : ResourceId → Option ProviderEvent → Machine → Run
+plan-head r theirs m = match head r m none: ok m some: (λ p. plan r p (p .edit .operation) theirs m)

@@ -1,3 +1,4 @@
+use Rattle.writes.proofs.Plans as plans
 use native.Mathlib.Omega.{arith}
 use borrow.Author.Needs.{needs}
 use Rattle.writes.proofs.plan_head.Statement.{statement}
@@ -34,13 +35,13 @@ part-requires-2 : tie.Need-part-requires-2
 part-requires-2 c κs = search needs
 
 set-plan-requires : tie.Need-set-plan-requires
-set-plan-requires c κs = ?
+set-plan-requires c κs = (c .before .before .before .before .before .before .before .before .before .before .before .before .before .before .before .pre .0, (c .before .before .before .before .before .before .before .before .before .before .before .before .before .before .before .pre .1 .0, plans.part-short (c .before .before .before .before .before .before .before .before .before .before .put-conflicts .last .0) _ (c .before .before .before .before .before .before .before .before .before .before .put-conflicts .result) 3072 (c .before .before .before .before .before .before .before .before .before .before .put-conflicts .kept .0) (c .before .before .before .part .ensures), plans.part-short (c .before .before .before .before .before .before .put-refused .last .0) _ (c .before .before .before .before .before .before .put-refused .result) 1024 (c .before .before .before .before .before .before .put-refused .kept .0) (c .before .part2 .ensures)))
 
 same-length : tie.Need-same-length
 same-length c = search needs
 
 returns : tie.Need-returns
-returns c = ?
+returns c = λ b o t by G. plans.plans _ _ G (c .before .before .before .before .before .before .before .before .before .before .before .before .before .put-conflicts .ensures b o t by G) (c .before .before .before .before .before .before .before .before .before .put-refused .ensures b o t by G) (c .before .before .before .before .before .before .part .ensures) (c .before .before .before .before .part2 .ensures) (c .before .before .set-plan .ensures)
 
 pub plan-head-spec : {M : Type 1} → statement M
 plan-head-spec =

@@ -1,3 +1,4 @@
+use Rattle.writes.proofs.Plans as plans
 use native.Mathlib.Omega.{arith}
 use borrow.Author.Needs.{needs}
 use Rattle.writes.proofs.revision_of.Statement.{statement}
@@ -18,7 +19,7 @@ part-requires : tie.Need-part-requires
 part-requires c κs = search needs
 
 returns : tie.Need-returns
-returns c = ?
+returns c = plans.revision-is (c .before .before .ids .ensures) (c .before .option-short-text .ensures) (c .part .ensures)
 
 pub revision-of-spec : {M : Type 1} → statement M
 revision-of-spec =

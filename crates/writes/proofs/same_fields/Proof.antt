@@ -1,3 +1,4 @@
+use Rattle.writes.proofs.Plans as plans
 use native.Mathlib.Omega.{arith}
 use borrow.Author.Needs.{needs}
 use Rattle.writes.proofs.same_fields.Statement.{statement}
@@ -21,7 +22,7 @@ same-requires : tie.Need-same-requires
 same-requires c κs = search needs
 
 returns : tie.Need-returns
-returns c = ?
+returns c = plans.fields-same (c .before .before .before .operation-part .ensures) (c .before .before .fields-of .ensures) (c .before .fields-of2 .ensures) (c .same .ensures)
 
 pub same-fields-spec : {M : Type 1} → statement M
 same-fields-spec =
