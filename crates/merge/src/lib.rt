@@ -49,7 +49,7 @@ fn before_fields(event: &[u8]) -> &[u8]
     comparison::part(event, 0, to)
 }
 
-fn fields_of(event: &[u8]) -> &[u8]
+pub fn fields_of(event: &[u8]) -> &[u8]
     ensures { λ r. ⌜ now r ≡ fieldsOf (now (event .entry)) ⌝ }
 {
     let c = fields_place(event);

@@ -1,0 +1,2 @@
+-- Outcomes whose events stand in the frame.
+pub mod Valid
