@@ -75,9 +75,9 @@ keyed-none r w at place F e = record {
   is = λ s h. sym (ap (is-some-and (λ p. creates-under-key (p .edit .operation))) (subst (EntryIs r 0 w s) e (F .is s h)));
 }
 
-pub keyed-room : (r : ResourceId) (w : List ℕ) (at : ℕ) (place : Place) → HasState w → FindsEntry r 0 w place → place ≡ Found at → at + 5940 ≤ 55643
+pub keyed-room : (j : ℕ) (r : ResourceId) (w : List ℕ) (at : ℕ) (place : Place) → HasState w → FindsEntry r j w place → place ≡ Found at → at + 5940 ≤ 55643
 unfolding EntryIs
-keyed-room r w at place H F e = let E : SomeEntryAt r 0 w (H .state) at = subst (EntryIs r 0 w (H .state)) e (F .is (H .state) (H .keeps)) in E .is .room
+keyed-room j r w at place H F e = let E : SomeEntryAt r j w (H .state) at = subst (EntryIs r j w (H .state)) e (F .is (H .state) (H .keeps)) in E .is .room
 
 -- ---- read_for_edit
 

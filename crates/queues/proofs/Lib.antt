@@ -4,3 +4,6 @@ pub mod Parts
 pub mod Heads
 pub mod Notices
 pub mod Starts
+pub mod Writers
+pub mod Folding
+pub mod Queueing

@@ -20,8 +20,8 @@ use Rattle.model.specs.Calls.{Rejection, Notice, Effect}
 use Rattle.model.specs.Formats.{operationF, eventF, conflictsF, refusalsF}
 use Rattle.model.specs.State.{Pending, SyncState, Purpose}
 use Rattle.model.specs.Maps.{if_then_else_, by-number, insert}
-use Rattle.model.specs.Machine.{Machine, Run, refused, ok, _>>=_, for-each, match_none:_some:_, within, tell, push, request, set-in-flight, set-next-request}
-use Rattle.model.specs.Sync.{head, ids-of, ending, notify}
+use Rattle.model.specs.Machine.{Machine, Run, refused, ok, _>>=_, for-each, match_none:_some:_, within, tell, push, request, set-in-flight, set-next-request, queue-of}
+use Rattle.model.specs.Sync.{ids-of, ending, notify}
 use Rattle.model.proofs.Holds as model
 use Rattle.pens.specs.declared.Pen.{Pen}
 use Rattle.effects.specs.Told.{Told, ToldOf, ToldOfBoth}
@@ -30,6 +30,7 @@ use Rattle.state.specs.Values.{name-of}
 use Rattle.state.specs.Contract.{Keeps, HasState, Reads}
 use Rattle.state.proofs.Padded.{text-name-only}
 use Rattle.waiting.specs.Queues.{queue, queue-in, nth}
+use Rattle.waiting.proofs.Cuts.{queue-is}
 use Rattle.waiting.specs.Entries.{EntryAt, SomeEntryAt, EntryIs, FindsEntry}
 use Rattle.waiting.specs.Reading.{nth-id, ReadsId, ids-number}
 use Rattle.machine.specs.declared.Progress.{Progress}
@@ -38,8 +39,7 @@ use Rattle.machine.specs.Steps.{pen-of, sent-by, reserve}
 use Rattle.machine.proofs.Runs as runs
 use Rattle.machine.proofs.Steps as steps
 use Rattle.queues.specs.Parts.{StandsAt, PartOf}
-use Rattle.queues.specs.Heads.{created, created-by, id-effect, applied-effect, create-effect, Sends, notify-head, notify-first}
-use Rattle.queues.proofs.Heads.{head-is}
+use Rattle.queues.specs.Heads.{created, created-by, id-effect, applied-effect, create-effect, Sends, notify-at, notify-first}
 
 -- ---- values in their fields
 
@@ -82,25 +82,25 @@ gives-none effect w o p n = record {
   stays = λ n. refl;
 }
 
-module _ (r : ResourceId) (w : List ℕ) (at : ℕ) (place : Place) (F : FindsEntry r 0 w place) where
-  entry-there : place ≡ Found at → (s : SyncState) → Keeps s w → SomeEntryAt r 0 w s at
+module _ (j : ℕ) (r : ResourceId) (w : List ℕ) (at : ℕ) (place : Place) (F : FindsEntry r j w place) where
+  entry-there : place ≡ Found at → (s : SyncState) → Keeps s w → SomeEntryAt r j w s at
   unfolding EntryIs
-  entry-there e s h = subst (EntryIs r 0 w s) e (F .is s h)
+  entry-there e s h = subst (EntryIs r j w s) e (F .is s h)
 
-  no-entry : place ≡ Missing at → (s : SyncState) → Keeps s w → nth 0 (queue r s) ≡ none
+  no-entry : place ≡ Missing at → (s : SyncState) → Keeps s w → nth j (queue r s) ≡ none
   unfolding EntryIs
-  no-entry e s h = subst (EntryIs r 0 w s) e (F .is s h)
+  no-entry e s h = subst (EntryIs r j w s) e (F .is s h)
 
   -- ---- Applied
 
-  pub applied-none : (id : Text) (o : List ℕ) (p : Progress) → place ≡ Missing at → Sends (applied-effect id r) w o p p o
+  pub applied-none : (id : Text) (o : List ℕ) (p : Progress) → place ≡ Missing at → Sends (applied-effect j id r) w o p p o
   unfolding applied-effect match_none:_some:_
-  applied-none id o p e = gives-none (applied-effect id r) w o p (λ s h. rw (no-entry e s h))
+  applied-none id o p e = gives-none (applied-effect j id r) w o p (λ s h. rw (no-entry e s h))
 
   pub applied-sent : (id : Text) {o o′ edit cs rs : List ℕ} {p q : Progress} {x y : Pen} → place ≡ Found at → PartOf conflictsF w (at + 1578) cs → PartOf refusalsF w (at + 4650) rs → edit ≡ id
-      → x ≡ pen-of p → ToldOfBoth conflictsF cs refusalsF rs (λ c d. Effect.Notify (Notice.Applied edit c d)) o o′ x y → q ≡ sent-by p y → Sends (applied-effect id r) w o p q o′
+      → x ≡ pen-of p → ToldOfBoth conflictsF cs refusalsF rs (λ c d. Effect.Notify (Notice.Applied edit c d)) o o′ x y → q ≡ sent-by p y → Sends (applied-effect j id r) w o p q o′
   unfolding applied-effect match_none:_some:_
-  applied-sent id {o} {o′} {edit} {cs} {rs} {x = x} {y} e C R d a T b = gives (applied-effect id r) w a b (λ s h e′ k.
+  applied-sent id {o} {o′} {edit} {cs} {rs} {x = x} {y} e C R d a T b = gives (applied-effect j id r) w a b (λ s h e′ k.
       let E = entry-there e s h in
       let P : Pending = E .entry in
       let c : Effect.Notify (Notice.Applied id (E .entry .conflicts) (E .entry .refused)) ≡ e′ =
@@ -110,17 +110,18 @@ module _ (r : ResourceId) (w : List ℕ) (at : ℕ) (place : Place) (F : FindsEn
       (C .is (P .conflicts) (stands-field conflictsF (P .conflicts) w (at + 1578) 3072 (E .is .fits .conflicts) (E .is .conflicts)))
       (R .is (P .refused) (stands-field refusalsF (P .refused) w (at + 4650) 1024 (E .is .fits .refused) (E .is .refused)))))
 
+module _ (r : ResourceId) (w : List ℕ) (at : ℕ) (place : Place) (F : FindsEntry r 0 w place) where
   -- ---- the request that creates
 
   pub create-none : (n : RequestId) (o : List ℕ) (p : Progress) → place ≡ Missing at → Sends (create-effect n r) w o p p o
   unfolding create-effect created match_none:_some:_
-  create-none n o p e = gives-none (create-effect n r) w o p (λ s h. rw (no-entry e s h))
+  create-none n o p e = gives-none (create-effect n r) w o p (λ s h. rw (no-entry 0 r w at place F e s h))
 
   pub create-sent : (n : RequestId) {o o′ resource event : List ℕ} {p q : Progress} {x y : Pen} → place ≡ Found at → PartOf eventF w (at + 67) event → resource ≡ r
       → x ≡ pen-of p → ToldOf eventF event (λ v. Effect.Request n (seam.Request.Create resource v)) o o′ x y → q ≡ sent-by p y → Sends (create-effect n r) w o p q o′
   unfolding create-effect created created-by match_none:_some:_
   create-sent n {o} {o′} {resource} {event} {x = x} {y} e C d a T b = gives (create-effect n r) w a b (λ s h e′ k.
-      let E = entry-there e s h in
+      let E = entry-there 0 r w at place F e s h in
       go e′ (E .entry .edit .operation) (E .is .fits .operation) (E .is .operation) (sym (ap (λ (y : Option Pending). match created y none: none some: (λ v. some (Effect.Request n (seam.Request.Create r v)))) (E .is .got)) ∙ k))
     where
       go : (e′ : Effect) (op : Operation) → operationF .Ok op → take 1469 (drop (at + 66) w) ≡ field 1469 operationF op → (match created-by op none: none some: (λ v. some (Effect.Request n (seam.Request.Create r v)))) ≡ some e′ → Told e′ o o′ x y
@@ -132,51 +133,51 @@ module _ (r : ResourceId) (w : List ℕ) (at : ℕ) (place : Place) (F : FindsEn
 
 -- ---- one id
 
-pub record IdGiven (k : ℕ) (r : ResourceId) (rejection : Option Rejection) (s : SyncState) (e : Effect) : Type 0 where
+pub record IdGiven (j k : ℕ) (r : ResourceId) (rejection : Option Rejection) (s : SyncState) (e : Effect) : Type 0 where
   pub entry : Pending
   pub id : Text
-  pub got : nth 0 (queue r s) ≡ some entry
+  pub got : nth j (queue r s) ≡ some entry
   pub has : nth-id k (ids-of entry) ≡ some id
   pub is : Effect.Notify (ending entry rejection id) ≡ e
 
-id-given : (k : ℕ) (r : ResourceId) (rejection : Option Rejection) (s : SyncState) (e : Effect) → id-effect k r rejection s ≡ some e → IdGiven k r rejection s e
+id-given : (j k : ℕ) (r : ResourceId) (rejection : Option Rejection) (s : SyncState) (e : Effect) → id-effect j k r rejection s ≡ some e → IdGiven j k r rejection s e
 unfolding id-effect match_none:_some:_
-id-given k r rejection s e q = go (nth 0 (queue r s)) refl q
+id-given j k r rejection s e q = go (nth j (queue r s)) refl q
   where
-    on : (p : Pending) → nth 0 (queue r s) ≡ some p → (x : Option Text) → nth-id k (ids-of p) ≡ x → (match x none: none some: (λ id. some (Effect.Notify (ending p rejection id)))) ≡ some e → IdGiven k r rejection s e
+    on : (p : Pending) → nth j (queue r s) ≡ some p → (x : Option Text) → nth-id k (ids-of p) ≡ x → (match x none: none some: (λ id. some (Effect.Notify (ending p rejection id)))) ≡ some e → IdGiven j k r rejection s e
     on p g none h q = absurd (Option·none-ne-some e q)
     on p g (some id) h q = record { entry = p; id = id; got = g; has = h; is = Option·some-injective (Effect.Notify (ending p rejection id)) e q }
 
-    go : (x : Option Pending) → nth 0 (queue r s) ≡ x → (match x none: none some: (λ p. match nth-id k (ids-of p) none: none some: (λ id. some (Effect.Notify (ending p rejection id))))) ≡ some e → IdGiven k r rejection s e
+    go : (x : Option Pending) → nth j (queue r s) ≡ x → (match x none: none some: (λ p. match nth-id k (ids-of p) none: none some: (λ id. some (Effect.Notify (ending p rejection id))))) ≡ some e → IdGiven j k r rejection s e
     go none g q = absurd (Option·none-ne-some e q)
     go (some p) g q = on p g (nth-id k (ids-of p)) refl q
 
-id-is : {k : ℕ} {r : ResourceId} {w b : List ℕ} {s : SyncState} {e : Effect} {rejection : Option Rejection} → ReadsId r 0 k w b → Keeps s w → (G : IdGiven k r rejection s e) → name-of b ≡ G .id
+id-is : {j k : ℕ} {r : ResourceId} {w b : List ℕ} {s : SyncState} {e : Effect} {rejection : Option Rejection} → ReadsId r j k w b → Keeps s w → (G : IdGiven j k r rejection s e) → name-of b ≡ G .id
 id-is {s = s} I h G = ap name-of (I .is s h (G .entry) (G .got) (G .id) (G .has) .0) ∙ text-name-only (G .id)
 
-module _ (k : ℕ) (r : ResourceId) {w o o′ b : List ℕ} {p q : Progress} (I : ReadsId r 0 k w b) where
-  pub id-applied : Sends (applied-effect (name-of b) r) w o p q o′ → Sends (id-effect k r none) w o p q o′
+module _ (j k : ℕ) (r : ResourceId) {w o o′ b : List ℕ} {p q : Progress} (I : ReadsId r j k w b) where
+  pub id-applied : Sends (applied-effect j (name-of b) r) w o p q o′ → Sends (id-effect j k r none) w o p q o′
   unfolding applied-effect match_none:_some:_ ending
   id-applied S = record {
     run = λ z m h e f.
-        let G = id-given k r none (m .state) e f in
+        let G = id-given j k r none (m .state) e f in
         S .run z m h e (ap (λ (y : Option Pending). match y none: none some: (λ p. some (Effect.Notify (Notice.Applied (name-of b) (p .conflicts) (p .refused))))) (G .got)
         ∙ ap (λ (i : Text). some (Effect.Notify (Notice.Applied i (G .entry .conflicts) (G .entry .refused)))) (id-is I (h .keeps) G) ∙ ap some (G .is));
     stays = S .stays;
   }
 
-  pub id-rejected : (reason : Rejection) → Pushes (Effect.Notify (Notice.Rejected (name-of b) reason)) o p q o′ → Sends (id-effect k r (some reason)) w o p q o′
+  pub id-rejected : (reason : Rejection) → Pushes (Effect.Notify (Notice.Rejected (name-of b) reason)) o p q o′ → Sends (id-effect j k r (some reason)) w o p q o′
   unfolding ending
   id-rejected reason P = record {
     run = λ z m h e f.
-        let G = id-given k r (some reason) (m .state) e f in
+        let G = id-given j k r (some reason) (m .state) e f in
         subst (λ (x : Effect). Ran (push x m) q w o′) (ap (λ (i : Text). Effect.Notify (Notice.Rejected i reason)) (id-is I (h .keeps) G) ∙ G .is) (P .does w .run z m h);
     stays = P .does w .stays;
   }
 
 -- the same, with the ending as a case tells it
-pub id-ends : {A : Type 0} (k : ℕ) (r : ResourceId) {w o o′ : List ℕ} {p q : Progress} (f : A → Option Rejection) {a b : A} → a ≡ b → Sends (id-effect k r (f b)) w o p q o′ → Sends (id-effect k r (f a)) w o p q o′
-id-ends k r {w} {o} {o′} {p} {q} f e S = subst (λ x. Sends (id-effect k r (f x)) w o p q o′) (sym e) S
+pub id-ends : {A : Type 0} (j k : ℕ) (r : ResourceId) {w o o′ : List ℕ} {p q : Progress} (f : A → Option Rejection) {a b : A} → a ≡ b → Sends (id-effect j k r (f b)) w o p q o′ → Sends (id-effect j k r (f a)) w o p q o′
+id-ends j k r {w} {o} {o′} {p} {q} f e S = subst (λ x. Sends (id-effect j k r (f x)) w o p q o′) (sym e) S
 
 -- ---- notify
 
@@ -212,29 +213,29 @@ unfolding Ran _>>=_
 ran-sends effect s e k S (refused n) h (c, d) = (S .stays (λ z. d (sym c ∙ z)) ∙ c, d)
 ran-sends effect s e k S (ok m) (model.holds h) (c, d) = S .run c m d e h
 
-module _ (r : ResourceId) (rejection : Option Rejection) where
-  notify-is : (k : ℕ) (m : Machine) (p : Pending) → nth 0 (queue r (m .state)) ≡ some p → notify-first k r rejection m ≡ for-each (λ id. tell (ending p rejection id)) (take k (ids-of p)) m
+module _ (j : ℕ) (r : ResourceId) (rejection : Option Rejection) where
+  notify-is : (k : ℕ) (m : Machine) (p : Pending) → nth j (queue r (m .state)) ≡ some p → notify-first j k r rejection m ≡ for-each (λ id. tell (ending p rejection id)) (take k (ids-of p)) m
   unfolding notify-first match_none:_some:_
-  notify-is k m p g = ap (λ (x : Option Pending). match x none: ok m some: (λ p. for-each (λ id. tell (ending p rejection id)) (take k (ids-of p)) m)) (sym (head-is r m) ∙ g)
+  notify-is k m p g = ap (λ (x : Option Pending). match x none: ok m some: (λ p. for-each (λ id. tell (ending p rejection id)) (take k (ids-of p)) m)) (ap (nth j) (queue-is r m) ∙ g)
 
-  pub notify-start : {w o : List ℕ} {p : Progress} → Does (notify-first 0 r rejection) w o p p w o
+  pub notify-start : {w o : List ℕ} {p : Progress} → Does (notify-first j 0 r rejection) w o p p w o
   unfolding notify-first match_none:_some:_ for-each
-  notify-start = runs.is (notify-first 0 r rejection) (λ m. go m (head r m)) runs.nothing
+  notify-start = runs.is (notify-first j 0 r rejection) (λ m. go m (nth j (queue-of r m))) runs.nothing
     where
       go : (m : Machine) (x : Option Pending) → ok m ≡ (match x none: ok m some: (λ p. for-each (λ id. tell (ending p rejection id)) (take 0 (ids-of p)) m))
       go m none = refl
       go m (some p) = refl
 
-  some-entry : (s : SyncState) (n k : ℕ) → n ≡ ids-number (nth 0 (queue r s)) → k < n → (p : Pending) × (nth 0 (queue r s) ≡ some p) × (n ≡ length (ids-of p))
+  some-entry : (s : SyncState) (n k : ℕ) → n ≡ ids-number (nth j (queue r s)) → k < n → (p : Pending) × (nth j (queue r s) ≡ some p) × (n ≡ length (ids-of p))
   unfolding ids-number
-  some-entry s n k e l = go (nth 0 (queue r s)) refl e
+  some-entry s n k e l = go (nth j (queue r s)) refl e
     where
-      go : (x : Option Pending) → nth 0 (queue r s) ≡ x → n ≡ ids-number x → (p : Pending) × (nth 0 (queue r s) ≡ some p) × (n ≡ length (ids-of p))
+      go : (x : Option Pending) → nth j (queue r s) ≡ x → n ≡ ids-number x → (p : Pending) × (nth j (queue r s) ≡ some p) × (n ≡ length (ids-of p))
       go none g f = absurd (let z : n ≡ 0 = f in omega arith)
       go (some p) g f = (p, g, f)
 
-  pub notify-next : (n k : ℕ) {w o o₁ o₂ : List ℕ} {p q s : Progress} → Reads (λ s. ids-number (nth 0 (queue r s))) w n → k < n → Does (notify-first k r rejection) w o p q w o₁ → Sends (id-effect k r rejection) w o₁ q s o₂
-      → Does (notify-first (k + 1) r rejection) w o p s w o₂
+  pub notify-next : (n k : ℕ) {w o o₁ o₂ : List ℕ} {p q s : Progress} → Reads (λ s. ids-number (nth j (queue r s))) w n → k < n → Does (notify-first j k r rejection) w o p q w o₁ → Sends (id-effect j k r rejection) w o₁ q s o₂
+      → Does (notify-first j (k + 1) r rejection) w o p s w o₂
   unfolding tell id-effect match_none:_some:_
   notify-next n k {w} {o} {o₁} {o₂} {p} {q} {s} N l D S = record {
     run = λ z m h.
@@ -244,25 +245,25 @@ module _ (r : ResourceId) (rejection : Option Rejection) where
         let I = nth-id-some k (ids-of (E .0)) (omega arith) in
         let e : Effect = Effect.Notify (ending (E .0) rejection (I .0)) in
         let body : EditId → Machine → Run = λ id. tell (ending (E .0) rejection id) in
-        let gives : id-effect k r rejection (m .state) ≡ some (Effect.Notify (ending (E .0) rejection (I .0))) =
+        let gives : id-effect j k r rejection (m .state) ≡ some (Effect.Notify (ending (E .0) rejection (I .0))) =
         ap (λ (x : Option Pending). match x none: none some: (λ p. match nth-id k (ids-of p) none: none some: (λ id. some (Effect.Notify (ending p rejection id))))) (E .1)
         ∙ ap (λ (x : Option Text). match x none: none some: (λ id. some (Effect.Notify (ending (E .0) rejection id)))) (I .1) in
-        let a : notify-first (k + 1) r rejection m ≡ (for-each (λ id. tell (ending (E .0) rejection id)) (take k (ids-of (E .0))) m >>= push (Effect.Notify (ending (E .0) rejection (I .0)))) =
+        let a : notify-first j (k + 1) r rejection m ≡ (for-each (λ id. tell (ending (E .0) rejection id)) (take k (ids-of (E .0))) m >>= push (Effect.Notify (ending (E .0) rejection (I .0)))) =
         notify-is (k + 1) m (E .0) (E .1) ∙ ap (λ (i : ℕ). for-each (λ id. tell (ending (E .0) rejection id)) (take i (ids-of (E .0))) m) (add-one k) ∙ tells-more (λ id. tell (ending (E .0) rejection id)) k (ids-of (E .0)) (I .0) (I .1) m in
         subst (λ (x : Run). Ran x s w o₂) (sym a)
-        (ran-sends (id-effect k r rejection) (m .state) e gives S (for-each (λ id. tell (ending (E .0) rejection id)) (take k (ids-of (E .0))) m)
-        (model.weaken (tells-state (λ id. ending (E .0) rejection id) (take k (ids-of (E .0))) m) (λ m′ y. ap (id-effect k r rejection) y ∙ gives))
+        (ran-sends (id-effect j k r rejection) (m .state) e gives S (for-each (λ id. tell (ending (E .0) rejection id)) (take k (ids-of (E .0))) m)
+        (model.weaken (tells-state (λ id. ending (E .0) rejection id) (take k (ids-of (E .0))) m) (λ m′ y. ap (id-effect j k r rejection) y ∙ gives))
         (subst (λ (x : Run). Ran x q w o₁) (notify-is k m (E .0) (E .1)) (D .run z m h)));
     stays = λ d. let k = D .stays d in S .stays (λ z. d (sym k ∙ z)) ∙ k;
     state = λ h. h;
   }
 
-  pub notify-end : (n k : ℕ) {w o o₁ : List ℕ} {p q : Progress} → Reads (λ s. ids-number (nth 0 (queue r s))) w n → n ≤ k → Does (notify-first k r rejection) w o p q w o₁ → Does (notify-head r rejection) w o p q w o₁
-  unfolding notify-first notify-head notify match_none:_some:_ ids-number
-  notify-end n k N l D = runs.is-held (notify-head r rejection) (λ m h. go m (nth 0 (queue r (m .state))) (head-is r m) (N .is (m .state) (h .keeps))) D
+  pub notify-end : (n k : ℕ) {w o o₁ : List ℕ} {p q : Progress} → Reads (λ s. ids-number (nth j (queue r s))) w n → n ≤ k → Does (notify-first j k r rejection) w o p q w o₁ → Does (notify-at j r rejection) w o p q w o₁
+  unfolding notify-first notify-at notify match_none:_some:_ ids-number
+  notify-end n k N l D = runs.is-held (notify-at j r rejection) (λ m h. go m (nth j (queue r (m .state))) (sym (ap (nth j) (queue-is r m))) (N .is (m .state) (h .keeps))) D
     where
-      go : (m : Machine) (x : Option Pending) → x ≡ head r m → n ≡ ids-number x
-          → (match head r m none: ok m some: (λ p. for-each (λ id. tell (ending p rejection id)) (take k (ids-of p)) m)) ≡ (match head r m none: ok m some: (λ p. for-each (λ id. tell (ending p rejection id)) (ids-of p) m))
+      go : (m : Machine) (x : Option Pending) → x ≡ nth j (queue-of r m) → n ≡ ids-number x
+          → (match nth j (queue-of r m) none: ok m some: (λ p. for-each (λ id. tell (ending p rejection id)) (take k (ids-of p)) m)) ≡ (match nth j (queue-of r m) none: ok m some: (λ p. for-each (λ id. tell (ending p rejection id)) (ids-of p) m))
       go m none e f = rw (← e)
       go m (some p) e f =
           let t : take k (ids-of p) ≡ ids-of p = take-all k (ids-of p) (omega (arith, f)) in

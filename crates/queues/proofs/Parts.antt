@@ -14,7 +14,7 @@ use Rattle.tables.specs.Table.{text}
 use Rattle.model.specs.Maps.{if_then_else_}
 use Rattle.frame.specs.Read.{stepped, skips}
 use Rattle.frame.specs.declared.Cursor.{Cursor}
-use Rattle.queues.specs.Parts.{StandsAt, PartOf, part-of}
+use Rattle.queues.specs.Parts.{StandsAt, PartOf, EndOf, part-of}
 
 pub part-under : (b : List ℕ) (from to : ℕ) → to < from → [] ≡ part-of b from to
 unfolding if_then_else_
@@ -29,7 +29,7 @@ unfolding if_then_else_
 part-in b from to l k = rw (le-leb from to l, le-leb to (length b) k)
 
 -- the place after a value that stands at one
-after : {A : Type 0} {f : Format A} (F : Lawful f) (b : List ℕ) (at : ℕ) (v : A) (S : StandsAt f v b at) → skips f b (record { at = at; ok = true }) ≡ record { at = length b - length (S .rest); ok = true }
+pub after : {A : Type 0} {f : Format A} (F : Lawful f) (b : List ℕ) (at : ℕ) (v : A) (S : StandsAt f v b at) → skips f b (record { at = at; ok = true }) ≡ record { at = length b - length (S .rest); ok = true }
 unfolding skips
 after {f = f} F b at v S = ap (stepped b) (ap (f .dec) (S .is) ∙ F .writes v (S .ok) (S .rest))
 
@@ -61,7 +61,7 @@ both-yes s at e = rw (eq-eqb (getD s at 0) 0 e)
 pub both-no : (s : List ℕ) (at : ℕ) → (getD s at 0 ≡ 0 → ⊥) → false ≡ (eqb (getD s at 0) 0 && eqb (getD s (at + 1) 0) 1)
 both-no s at e = rw (ne-eqb (getD s at 0) 0 e)
 
-take-short : (n : ℕ) (l : List ℕ) → length (take n l) ≤ length l
+pub take-short : (n : ℕ) (l : List ℕ) → length (take n l) ≤ length l
 take-short zero l = omega arith
 take-short (suc n) [] = omega arith
 take-short (suc n) (x ∷ l) = let h : length (take n l) ≤ length l = take-short n l in omega arith
@@ -73,3 +73,12 @@ text-short b t e l =
     let h : length (take (getD b 0 0) (drop 1 b)) ≤ length (drop 1 b) = take-short (getD b 0 0) (drop 1 b) in
     let k : length (drop 1 b) ≡ length b - 1 = length-drop 1 b in
     subst (λ (x : List ℕ). length x ≤ 255) (sym e) (omega arith)
+
+-- where a value ends
+pub end-stands : {A : Type 0} {f : Format A} (F : Lawful f) (b : List ℕ) (at end : ℕ) → end ≡ skips f b (record { at = at; ok = true }) .at → EndOf f b at end
+end-stands {f = f} F b at end e = record {
+  is = λ k v S.
+      let n : end ≡ length b - length (S .rest) = e ∙ ap (λ (c : Cursor). c .at) (after F b at v S) in
+      let l : length b - at ≡ length (f .enc v) + length (S .rest) = sym (length-drop at b) ∙ ap length (S .is) ∙ length-append (f .enc v) (S .rest) in
+      omega arith;
+}

@@ -39,7 +39,7 @@ use Rattle.machine.specs.Contract.{Holds, Ran, Does}
 use Rattle.machine.proofs.Runs as runs
 use Rattle.queues.specs.declared.Beginning.{Beginning}
 use Rattle.queues.specs.declared.Beginning.the-variants as Begin
-use Rattle.queues.specs.Heads.{begins-write, begins-delete, begins-by, begins-as, created, created-by, notify-head}
+use Rattle.queues.specs.Heads.{begins-write, begins-delete, begins-by, begins-as, created, created-by, notify-at}
 use Rattle.queues.proofs.Heads.{head-is}
 
 -- ---- how a head begins
@@ -220,21 +220,21 @@ tells-apart f (x ∷ xs) s m = ap (λ (r : Run). r >>= for-each (λ x. tell (f x
     go (refused n) ih = refl
     go (ok m′) ih = ih m′
 
-notify-apart : (p : Pending) (rejection : Option Rejection) (s : SyncState) (m : Machine) → notify p rejection (with-state s m) ≡ (notify p rejection m >>= λ m′. ok (with-state s m′))
+pub notify-apart : (p : Pending) (rejection : Option Rejection) (s : SyncState) (m : Machine) → notify p rejection (with-state s m) ≡ (notify p rejection m >>= λ m′. ok (with-state s m′))
 unfolding notify
 notify-apart p rejection s m = tells-apart (λ id. ending p rejection id) (ids-of p) s m
 
-set-queue-is : (r : ResourceId) (q : Queue) (m : Machine) → set-queue r q m ≡ with-state (put-queue r q (m .state)) m
+pub set-queue-is : (r : ResourceId) (q : Queue) (m : Machine) → set-queue r q m ≡ with-state (put-queue r q (m .state)) m
 unfolding set-queue set-edits put-in
 set-queue-is r [] m = refl
 set-queue-is r (p ∷ q) m = refl
 
-bind-assoc : (r : Run) (s : Machine → SyncState) (g : Machine → Run) → ((r >>= λ m. ok (with-state (s m) m)) >>= g) ≡ (r >>= λ m. g (with-state (s m) m))
+pub bind-assoc : (r : Run) (s : Machine → SyncState) (g : Machine → Run) → ((r >>= λ m. ok (with-state (s m) m)) >>= g) ≡ (r >>= λ m. g (with-state (s m) m))
 unfolding _>>=_
 bind-assoc (refused n) s g = refl
 bind-assoc (ok m) s g = refl
 
-bind-same : {f g : Machine → Run} {r : Run} → model.Holds (λ m. f m ≡ g m) r → (r >>= f) ≡ (r >>= g)
+pub bind-same : {f g : Machine → Run} {r : Run} → model.Holds (λ m. f m ≡ g m) r → (r >>= f) ≡ (r >>= g)
 unfolding _>>=_
 bind-same model.stopped = refl
 bind-same (model.holds h) = h
@@ -261,12 +261,12 @@ unfolding finish finish-queue
 finish-empty r rejection m [] k e = ap (λ (x : Queue). finish-queue r rejection x m) (sym k)
 finish-empty r rejection m (p ∷ q) k e = absurd (omega arith)
 
-told-head : (r : ResourceId) (rejection : Option Rejection) (m : Machine) (p : Pending) (q : Queue) → queue-of r m ≡ p ∷ q → notify-head r rejection m ≡ notify p rejection m
-unfolding notify-head head match_none:_some:_ first
-told-head r rejection m p q k = ap (λ (x : Queue). match first x none: ok m some: (λ p. notify p rejection m)) k
+told-head : (r : ResourceId) (rejection : Option Rejection) (m : Machine) (p : Pending) (q : Queue) → queue-of r m ≡ p ∷ q → notify-at 0 r rejection m ≡ notify p rejection m
+unfolding notify-at match_none:_some:_ nth
+told-head r rejection m p q k = ap (λ (x : Queue). match nth 0 x none: ok m some: (λ p. notify p rejection m)) k
 
 finish-full : (r : ResourceId) (rejection : Option Rejection) (m : Machine) (q : Queue) → queue-of r m ≡ q → (length q ≡ 0 → ⊥)
-    → (notify-head r rejection m >>= λ m′. start-edit r (with-state (headless r (m′ .state)) m′)) ≡ finish r rejection m
+    → (notify-at 0 r rejection m >>= λ m′. start-edit r (with-state (headless r (m′ .state)) m′)) ≡ finish r rejection m
 finish-full r rejection m [] k ne = absurd (ne refl)
 finish-full r rejection m (p ∷ q) k ne = ap (λ (x : Run). x >>= λ m′. start-edit r (with-state (headless r (m′ .state)) m′)) (told-head r rejection m p q k) ∙ ends-so r rejection m p q k
 
@@ -274,7 +274,7 @@ module _ (r : ResourceId) (rejection : Option Rejection) {w : List ℕ} {n : ℕ
   pub finish-none : {o : List ℕ} {p : Progress} → n ≡ 0 → Does (finish r rejection) w o p p w o
   finish-none e = runs.is-held (finish r rejection) (λ m h. finish-empty r rejection m (queue r (m .state)) (queue-is r m) (sym e ∙ N .is (m .state) (h .keeps))) runs.nothing
 
-  pub finish-next : {o o₁ w₁ w₂ o₂ : List ℕ} {p q s : Progress} → (n ≡ 0 → ⊥) → Does (notify-head r rejection) w o p q w o₁ → Edits (λ s. put-queue r (without 0 (queue r s)) s) w w₁ → Does (start-edit r) w₁ o₁ q s w₂ o₂
+  pub finish-next : {o o₁ w₁ w₂ o₂ : List ℕ} {p q s : Progress} → (n ≡ 0 → ⊥) → Does (notify-at 0 r rejection) w o p q w o₁ → Edits (λ s. put-queue r (without 0 (queue r s)) s) w w₁ → Does (start-edit r) w₁ o₁ q s w₂ o₂
       → Does (finish r rejection) w o p s w₂ o₂
   finish-next ne D E S =
       runs.is-held (finish r rejection) (λ m h. finish-full r rejection m (queue r (m .state)) (queue-is r m) (λ z. ne (N .is (m .state) (h .keeps) ∙ z)))

@@ -12,8 +12,8 @@ use Rattle.model.specs.Parts.{Role}
 use Rattle.model.specs.Edits.{Operation}
 use Rattle.model.specs.Calls.{Rejection, Notice, Effect}
 use Rattle.model.specs.State.{Pending, SyncState}
-use Rattle.model.specs.Machine.{Machine, Run, ok, for-each, match_none:_some:_, tell, push}
-use Rattle.model.specs.Sync.{describe, head, ids-of, ending, notify, assigns-ids, is-attendee}
+use Rattle.model.specs.Machine.{Machine, Run, ok, for-each, match_none:_some:_, tell, push, queue-of}
+use Rattle.model.specs.Sync.{describe, ids-of, ending, notify, assigns-ids, is-attendee}
 use Rattle.frame.specs.Meaning.{meantOutcome}
 use Rattle.effects.specs.Told.{meantRefusal}
 use Rattle.waiting.specs.Queues.{queue, nth}
@@ -62,14 +62,14 @@ unfoldable pub created : Option Pending → Option ProviderEvent
 created none = none
 created (some p) = created-by (p .edit .operation)
 
--- the notice for the k-th id of the head
-unfoldable pub id-effect : ℕ → ResourceId → Option Rejection → SyncState → Option Effect
-id-effect k r rejection s =
-    match nth 0 (queue r s) none: none some: (λ p. match nth-id k (ids-of p) none: none some: (λ id. some (Effect.Notify (ending p rejection id))))
+-- the notice for the k-th id of the j-th entry
+unfoldable pub id-effect : (j k : ℕ) → ResourceId → Option Rejection → SyncState → Option Effect
+id-effect j k r rejection s =
+    match nth j (queue r s) none: none some: (λ p. match nth-id k (ids-of p) none: none some: (λ id. some (Effect.Notify (ending p rejection id))))
 
--- the notice that the edit `id` is applied, with the head's reports
-unfoldable pub applied-effect : Text → ResourceId → SyncState → Option Effect
-applied-effect id r s = match nth 0 (queue r s) none: none some: (λ p. some (Effect.Notify (Notice.Applied id (p .conflicts) (p .refused))))
+-- the notice that the edit `id` is applied, with the j-th entry's reports
+unfoldable pub applied-effect : ℕ → Text → ResourceId → SyncState → Option Effect
+applied-effect j id r s = match nth j (queue r s) none: none some: (λ p. some (Effect.Notify (Notice.Applied id (p .conflicts) (p .refused))))
 
 -- the request that creates the head's event
 unfoldable pub create-effect : RequestId → ResourceId → SyncState → Option Effect
@@ -82,10 +82,10 @@ pub record Sends (effect : SyncState → Option Effect) (w o : List ℕ) (p q : 
 
 -- ---- notices
 
--- the head's ids are told
-unfoldable pub notify-head : ResourceId → Option Rejection → Machine → Run
-notify-head r rejection m = match head r m none: ok m some: (λ p. notify p rejection m)
+-- the ids of the j-th entry are told
+unfoldable pub notify-at : ℕ → ResourceId → Option Rejection → Machine → Run
+notify-at j r rejection m = match nth j (queue-of r m) none: ok m some: (λ p. notify p rejection m)
 
 -- the first k of them
-unfoldable pub notify-first : ℕ → ResourceId → Option Rejection → Machine → Run
-notify-first k r rejection m = match head r m none: ok m some: (λ p. for-each (λ id. tell (ending p rejection id)) (take k (ids-of p)) m)
+unfoldable pub notify-first : (j k : ℕ) → ResourceId → Option Rejection → Machine → Run
+notify-first j k r rejection m = match nth j (queue-of r m) none: ok m some: (λ p. for-each (λ id. tell (ending p rejection id)) (take k (ids-of p)) m)

@@ -1,5 +1,5 @@
 -- Encoded values where they stand in a buffer, and the parts of it that are handed on. Assumes nothing.
-use Prim.Native.Nat.{ℕ, _-_}
+use Prim.Native.Nat.{ℕ, _+_, _-_, _≤_}
 use mathlib.Core.Path.{_≡_}
 use mathlib.Core.List.{List, [], _++_}
 use mathlib.Core.Bool.{Bool}
@@ -21,3 +21,13 @@ pub record PartOf {A : Type 0} (f : Format A) (b : List ℕ) (at : ℕ) (part : 
 -- the bytes from one place to another, or none
 abbrev pub part-of : List ℕ → ℕ → ℕ → List ℕ
 part-of b from to = if (leb from to) then (if leb to (length b) then take (to - from) (drop from b) else []) else []
+
+-- the first n bytes of a buffer are x
+pub record Filled (x b : List ℕ) (n : ℕ) : Type 0 where
+  pub count : n ≡ length x
+  pub fits : n ≤ length b
+  pub bytes : take n b ≡ x
+
+-- where a value ends, if one stands at the place
+pub record EndOf {A : Type 0} (f : Format A) (b : List ℕ) (at end : ℕ) : Type 0 where
+  pub is : at ≤ length b → (v : A) → StandsAt f v b at → end ≡ at + length (f .enc v)

@@ -2,6 +2,12 @@ use Rattle.state.specs.Values.{name-of}
 use mathlib.Core.Path.{_≡_, refl, sym, ap, ap₂, _∙_, subst}
 use Rattle.queues.proofs.Parts as parts
 use Rattle.queues.proofs.Heads as heads
+use Rattle.queues.proofs.Notices as notices
+use Rattle.queues.proofs.Starts as starts
+use Prim.Native.Nat.{ℕ, _+_, _-_, _*_, _≤_, _<_}
+use lib.ListN.{length}
+use mathlib.Core.Bool.{true, false}
+use Rattle.queues.proofs.Writers as writers
 use native.Mathlib.Omega.{arith}
 use borrow.Author.Needs.{needs}
 use Rattle.queues.proofs.looks_up.Statement.{statement}
@@ -18,12 +24,12 @@ enum-known-place : tie.Need-enum-known-place
 enum-known-place c = search needs
 
 add-is-keyed : tie.Need-add-is-keyed
-add-is-keyed c = let h = heads.keyed-room (name-of (c .before .before .before .before .before .args .name .bytes)) (c .before .before .before .before .before .args .work .now) (c .before .place .given .0 .0) (c .before .before .before .find-entry .result) (c .before .before .before .before .before .pre .0) (c .before .before .before .find-entry .ensures) (c .before .place .given .1) in
+add-is-keyed c = let h = heads.keyed-room 0 (name-of (c .before .before .before .before .before .args .name .bytes)) (c .before .before .before .before .before .args .work .now) (c .before .place .given .0 .0) (c .before .before .before .find-entry .result) (c .before .before .before .before .before .pre .0) (c .before .before .before .find-entry .ensures) (c .before .place .given .1) in
     let L = c .before .before .before .before .before .pre .0 .keeps .long in
     omega arith
 
 is-keyed-requires : tie.Need-is-keyed-requires
-is-keyed-requires c κs = let h = heads.keyed-room (name-of (c .before .before .before .before .before .args .name .bytes)) (c .before .before .before .before .before .args .work .now) (c .before .place .given .0 .0) (c .before .before .before .find-entry .result) (c .before .before .before .before .before .pre .0) (c .before .before .before .find-entry .ensures) (c .before .place .given .1) in
+is-keyed-requires c κs = let h = heads.keyed-room 0 (name-of (c .before .before .before .before .before .args .name .bytes)) (c .before .before .before .before .before .args .work .now) (c .before .place .given .0 .0) (c .before .before .before .find-entry .result) (c .before .before .before .before .before .pre .0) (c .before .before .before .find-entry .ensures) (c .before .place .given .1) in
     let L = c .before .before .before .before .before .pre .0 .keeps .long in
     omega arith
 

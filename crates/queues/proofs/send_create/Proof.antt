@@ -8,6 +8,7 @@ use Rattle.queues.proofs.Starts as starts
 use Prim.Native.Nat.{ℕ, _+_, _-_, _*_, _≤_, _<_}
 use lib.ListN.{length}
 use mathlib.Core.Bool.{true, false}
+use Rattle.queues.proofs.Writers as writers
 use native.Mathlib.Omega.{arith}
 use borrow.Author.Needs.{needs}
 use Rattle.queues.proofs.send_create.Statement.{statement}
@@ -28,7 +29,7 @@ enum-known-place : tie.Need-enum-known-place
 enum-known-place c = search needs
 
 add-event-at : tie.Need-add-event-at
-add-event-at c = let h = heads.keyed-room (name-of (c .before .before .before .before .before .before .before .args .name .bytes)) (c .before .before .before .before .before .before .before .args .work .now) (c .before .before .place .given .0 .0) (c .before .before .before .before .find-entry .result) (c .before .before .before .before .before .before .before .pre .0) (c .before .before .before .before .find-entry .ensures) (c .before .before .place .given .1) in
+add-event-at c = let h = heads.keyed-room 0 (name-of (c .before .before .before .before .before .before .before .args .name .bytes)) (c .before .before .before .before .before .before .before .args .work .now) (c .before .before .place .given .0 .0) (c .before .before .before .before .find-entry .result) (c .before .before .before .before .before .before .before .pre .0) (c .before .before .before .before .find-entry .ensures) (c .before .before .place .given .1) in
     let L = c .before .before .before .before .before .before .before .pre .0 .keeps .long in
     omega arith
 

@@ -7,6 +7,7 @@ use Rattle.queues.proofs.Starts as starts
 use Prim.Native.Nat.{ℕ, _+_, _-_, _*_, _≤_, _<_}
 use lib.ListN.{length}
 use mathlib.Core.Bool.{true, false}
+use Rattle.queues.proofs.Writers as writers
 use native.Mathlib.Omega.{arith}
 use borrow.Author.Needs.{needs}
 use Rattle.queues.proofs.tell_applied.Statement.{statement}
@@ -28,7 +29,7 @@ enum-known-place : tie.Need-enum-known-place
 enum-known-place c = search needs
 
 add-conflicts-at : tie.Need-add-conflicts-at
-add-conflicts-at c = let h = heads.keyed-room (name-of (c .before .before .before .before .before .before .before .args .name .bytes)) (c .before .before .before .before .before .before .before .args .work .now) (c .before .before .place .given .0 .0) (c .before .before .before .before .find-entry .result) (c .before .before .before .before .before .before .before .pre .0) (c .before .before .before .before .find-entry .ensures) (c .before .before .place .given .1) in
+add-conflicts-at c = let h = heads.keyed-room (c .before .before .before .before .before .before .before .args .j) (name-of (c .before .before .before .before .before .before .before .args .name .bytes)) (c .before .before .before .before .before .before .before .args .work .now) (c .before .before .place .given .0 .0) (c .before .before .before .before .find-entry .result) (c .before .before .before .before .before .before .before .pre .0) (c .before .before .before .before .find-entry .ensures) (c .before .before .place .given .1) in
     let L = c .before .before .before .before .before .before .before .pre .0 .keeps .long in
     omega arith
 
@@ -36,7 +37,7 @@ conflicts-at-requires : tie.Need-conflicts-at-requires
 conflicts-at-requires c κs = search needs
 
 add-refused-at : tie.Need-add-refused-at
-add-refused-at c = let h = heads.keyed-room (name-of (c .before .before .before .before .before .before .before .before .args .name .bytes)) (c .before .before .before .before .before .before .before .before .args .work .now) (c .before .before .before .place .given .0 .0) (c .before .before .before .before .before .find-entry .result) (c .before .before .before .before .before .before .before .before .pre .0) (c .before .before .before .before .before .find-entry .ensures) (c .before .before .before .place .given .1) in
+add-refused-at c = let h = heads.keyed-room (c .before .before .before .before .before .before .before .before .args .j) (name-of (c .before .before .before .before .before .before .before .before .args .name .bytes)) (c .before .before .before .before .before .before .before .before .args .work .now) (c .before .before .before .place .given .0 .0) (c .before .before .before .before .before .find-entry .result) (c .before .before .before .before .before .before .before .before .pre .0) (c .before .before .before .before .before .find-entry .ensures) (c .before .before .before .place .given .1) in
     let L = c .before .before .before .before .before .before .before .before .pre .0 .keeps .long in
     omega arith
 
@@ -63,13 +64,13 @@ same-length : tie.Need-same-length
 same-length c = search needs
 
 returns : tie.Need-returns
-returns c = notices.applied-sent (name-of (c .before .before .before .before .before .before .before .before .before .before .before .before .before .before .before .before .before .args .name .bytes)) (c .before .before .before .before .before .before .before .before .before .before .before .before .before .before .before .before .before .args .work .now) (c .before .before .before .before .before .before .before .before .before .before .before .before .place .given .0 .0) (c .before .before .before .before .before .before .before .before .before .before .before .before .before .before .find-entry .result) (c .before .before .before .before .before .before .before .before .before .before .before .before .before .before .find-entry .ensures) (name-of (c .before .before .before .before .before .before .before .before .before .before .before .before .before .before .before .before .before .args .id .bytes)) (c .before .before .before .before .before .before .before .before .before .before .before .before .place .given .1) (c .before .before .before .before .before .before .before .before .before .conflicts-at .ensures) (c .before .before .before .before .before .before .before .before .refused-at .ensures) (c .before .before .before .before .before .before .text-of .ensures) (c .before .before .before .before .before .pen-of .ensures) (c .before .before .before .applied .ensures) (c .sent .ensures)
+returns c = notices.applied-sent (c .before .before .before .before .before .before .before .before .before .before .before .before .before .before .before .before .before .args .j) (name-of (c .before .before .before .before .before .before .before .before .before .before .before .before .before .before .before .before .before .args .name .bytes)) (c .before .before .before .before .before .before .before .before .before .before .before .before .before .before .before .before .before .args .work .now) (c .before .before .before .before .before .before .before .before .before .before .before .before .place .given .0 .0) (c .before .before .before .before .before .before .before .before .before .before .before .before .before .before .find-entry .result) (c .before .before .before .before .before .before .before .before .before .before .before .before .before .before .find-entry .ensures) (name-of (c .before .before .before .before .before .before .before .before .before .before .before .before .before .before .before .before .before .args .id .bytes)) (c .before .before .before .before .before .before .before .before .before .before .before .before .place .given .1) (c .before .before .before .before .before .before .before .before .before .conflicts-at .ensures) (c .before .before .before .before .before .before .before .before .refused-at .ensures) (c .before .before .before .before .before .before .text-of .ensures) (c .before .before .before .before .before .pen-of .ensures) (c .before .before .before .applied .ensures) (c .sent .ensures)
 
 enum-known-place-2 : tie.Need-enum-known-place-2
 enum-known-place-2 c = search needs
 
 returns-2 : tie.Need-returns-2
-returns-2 c = notices.applied-none (name-of (c .before .before .before .before .before .before .args .name .bytes)) (c .before .before .before .before .before .before .args .work .now) (c .before .place2 .given .0 .0) (c .before .before .before .find-entry .result) (c .before .before .before .find-entry .ensures) (name-of (c .before .before .before .before .before .before .args .id .bytes)) (c .before .before .before .before .before .before .args .out .now) (c .before .before .before .before .before .before .args .p) (c .before .place2 .given .1)
+returns-2 c = notices.applied-none (c .before .before .before .before .before .before .args .j) (name-of (c .before .before .before .before .before .before .args .name .bytes)) (c .before .before .before .before .before .before .args .work .now) (c .before .place2 .given .0 .0) (c .before .before .before .find-entry .result) (c .before .before .before .find-entry .ensures) (name-of (c .before .before .before .before .before .before .args .id .bytes)) (c .before .before .before .before .before .before .args .out .now) (c .before .before .before .before .before .before .args .p) (c .before .place2 .given .1)
 
 pub tell-applied-spec : {M : Type 1} → statement M
 tell-applied-spec =

@@ -12,6 +12,7 @@ use Rattle.queues.proofs.Starts as starts
 use Prim.Native.Nat.{ℕ, _+_, _-_, _*_, _≤_, _<_}
 use lib.ListN.{length}
 use mathlib.Core.Bool.{true, false}
+use Rattle.queues.proofs.Writers as writers
 use native.Mathlib.Omega.{arith}
 use borrow.Author.Needs.{needs}
 use Rattle.queues.proofs.tell_id.Statement.{statement}
@@ -36,7 +37,7 @@ same-length : tie.Need-same-length
 same-length c = search needs
 
 returns : tie.Need-returns
-returns c = notices.id-ends (c .before .before .before .before .before .before .before .before .before .before .args .k) (name-of (c .before .before .before .before .before .before .before .before .before .before .args .name .bytes)) (rejection-of (c .before .before .before .before .before .before .before .before .before .before .args .frame .now)) (c .before .before .before .before .enum-told .given .1) (notices.id-applied (c .before .before .before .before .before .before .before .before .before .before .args .k) (name-of (c .before .before .before .before .before .before .before .before .before .before .args .name .bytes)) (c .before .before .before .before .before .before .entry-id .ensures) (c .before .before .tell-applied .ensures))
+returns c = notices.id-ends (c .before .before .before .before .before .before .before .before .before .before .args .j) (c .before .before .before .before .before .before .before .before .before .before .args .k) (name-of (c .before .before .before .before .before .before .before .before .before .before .args .name .bytes)) (rejection-of (c .before .before .before .before .before .before .before .before .before .before .args .frame .now)) (c .before .before .before .before .enum-told .given .1) (notices.id-applied (c .before .before .before .before .before .before .before .before .before .before .args .j) (c .before .before .before .before .before .before .before .before .before .before .args .k) (name-of (c .before .before .before .before .before .before .before .before .before .before .args .name .bytes)) (c .before .before .before .before .before .before .entry-id .ensures) (c .before .before .tell-applied .ensures))
 
 enum-known-ending : tie.Need-enum-known-ending
 enum-known-ending c = search needs
@@ -48,7 +49,7 @@ same-length-2 : tie.Need-same-length-2
 same-length-2 c = search needs
 
 returns-2 : tie.Need-returns-2
-returns-2 c = notices.id-ends (c .before .before .before .before .before .before .before .before .before .before .before .args .k) (name-of (c .before .before .before .before .before .before .before .before .before .before .before .args .name .bytes)) (rejection-of (c .before .before .before .before .before .before .before .before .before .before .before .args .frame .now)) (c .before .before .before .before .before .ending .given .1) (notices.id-rejected (c .before .before .before .before .before .before .before .before .before .before .before .args .k) (name-of (c .before .before .before .before .before .before .before .before .before .before .before .args .name .bytes)) (c .before .before .before .before .before .before .before .entry-id .ensures) (meantRefusal (c .before .before .before .before .before .ending .given .0 .0)) (c .before .before .tell-rejected .ensures))
+returns-2 c = notices.id-ends (c .before .before .before .before .before .before .before .before .before .before .before .args .j) (c .before .before .before .before .before .before .before .before .before .before .before .args .k) (name-of (c .before .before .before .before .before .before .before .before .before .before .before .args .name .bytes)) (rejection-of (c .before .before .before .before .before .before .before .before .before .before .before .args .frame .now)) (c .before .before .before .before .before .ending .given .1) (notices.id-rejected (c .before .before .before .before .before .before .before .before .before .before .before .args .j) (c .before .before .before .before .before .before .before .before .before .before .before .args .k) (name-of (c .before .before .before .before .before .before .before .before .before .before .before .args .name .bytes)) (c .before .before .before .before .before .before .before .entry-id .ensures) (meantRefusal (c .before .before .before .before .before .ending .given .0 .0)) (c .before .before .tell-rejected .ensures))
 
 enum-known-ending-2 : tie.Need-enum-known-ending-2
 enum-known-ending-2 c = search needs
@@ -60,7 +61,7 @@ same-length-3 : tie.Need-same-length-3
 same-length-3 c = search needs
 
 returns-3 : tie.Need-returns-3
-returns-3 c = notices.id-ends (c .before .before .before .before .before .before .before .before .before .before .before .args .k) (name-of (c .before .before .before .before .before .before .before .before .before .before .before .args .name .bytes)) (rejection-of (c .before .before .before .before .before .before .before .before .before .before .before .args .frame .now)) (c .before .before .before .before .before .ending2 .given .1) (notices.id-rejected (c .before .before .before .before .before .before .before .before .before .before .before .args .k) (name-of (c .before .before .before .before .before .before .before .before .before .before .before .args .name .bytes)) (c .before .before .before .before .before .before .before .entry-id .ensures) (Rejection.Provider (describe (meantOutcome (c .before .before .before .before .before .before .before .before .before .before .before .args .frame .now) (c .before .before .before .before .before .ending2 .given .0 .0)))) (c .before .before .tell-rejected-by .ensures))
+returns-3 c = notices.id-ends (c .before .before .before .before .before .before .before .before .before .before .before .args .j) (c .before .before .before .before .before .before .before .before .before .before .before .args .k) (name-of (c .before .before .before .before .before .before .before .before .before .before .before .args .name .bytes)) (rejection-of (c .before .before .before .before .before .before .before .before .before .before .before .args .frame .now)) (c .before .before .before .before .before .ending2 .given .1) (notices.id-rejected (c .before .before .before .before .before .before .before .before .before .before .before .args .j) (c .before .before .before .before .before .before .before .before .before .before .before .args .k) (name-of (c .before .before .before .before .before .before .before .before .before .before .before .args .name .bytes)) (c .before .before .before .before .before .before .before .entry-id .ensures) (Rejection.Provider (describe (meantOutcome (c .before .before .before .before .before .before .before .before .before .before .before .args .frame .now) (c .before .before .before .before .before .ending2 .given .0 .0)))) (c .before .before .tell-rejected-by .ensures))
 
 pub tell-id-spec : {M : Type 1} → statement M
 tell-id-spec =

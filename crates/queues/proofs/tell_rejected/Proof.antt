@@ -9,6 +9,7 @@ use Rattle.queues.proofs.Starts as starts
 use Prim.Native.Nat.{ℕ, _+_, _-_, _*_, _≤_, _<_}
 use lib.ListN.{length}
 use mathlib.Core.Bool.{true, false}
+use Rattle.queues.proofs.Writers as writers
 use native.Mathlib.Omega.{arith}
 use borrow.Author.Needs.{needs}
 use Rattle.queues.proofs.tell_rejected.Statement.{statement}

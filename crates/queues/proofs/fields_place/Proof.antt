@@ -1,0 +1,36 @@
+use mathlib.Core.Path.{_≡_, refl, sym, ap, ap₂, _∙_, subst}
+use Rattle.queues.proofs.Parts as parts
+use Rattle.queues.proofs.Heads as heads
+use Rattle.queues.proofs.Notices as notices
+use Rattle.queues.proofs.Starts as starts
+use Prim.Native.Nat.{ℕ, _+_, _-_, _*_, _≤_, _<_}
+use lib.ListN.{length}
+use mathlib.Core.Bool.{true, false}
+use Rattle.queues.proofs.Writers as writers
+use Rattle.queues.proofs.Folding as folding
+use Rattle.queues.proofs.Writers as writers
+use native.Mathlib.Omega.{arith}
+use borrow.Author.Needs.{needs}
+use Rattle.queues.proofs.fields_place.Statement.{statement}
+use Rattle.queues.proofs.fields_place.Tie as tie
+use Rattle.queues.proofs.fields_place.Reads as reads
+use Rattle.queues.proofs.fields_place.Lts as lts
+use Rattle.frame.proofs.Cursor.ids.Reads as ids-reads
+use Rattle.frame.proofs.Cursor.number.Reads as number-reads
+use Rattle.frame.proofs.Cursor.option_short_text.Reads as option-short-text-reads
+
+ids-requires : tie.Need-ids-requires
+ids-requires c κs = search needs
+
+option-short-text-requires : tie.Need-option-short-text-requires
+option-short-text-requires c κs = search needs
+
+number-requires : tie.Need-number-requires
+number-requires c κs = search needs
+
+returns : tie.Need-returns
+returns c = folding.place-of-fields (c .before .before .before .before .args .src .now) (c .before .before .before .before .args .at) (c .before .before .before .before .pre) (c .before .before .ids .ensures) (c .before .option-short-text .ensures) (c .number .ensures)
+
+pub fields-place-spec : {M : Type 1} → statement M
+fields-place-spec =
+    tie.close (tie.spec ids-requires option-short-text-requires number-requires returns)

@@ -1,0 +1,37 @@
+use mir.Facts.{toZ-ofZ}
+use mathlib.Core.Path.{_≡_, refl, sym, ap, ap₂, _∙_, subst}
+use Rattle.queues.proofs.Parts as parts
+use Rattle.queues.proofs.Heads as heads
+use Rattle.queues.proofs.Notices as notices
+use Rattle.queues.proofs.Starts as starts
+use Prim.Native.Nat.{ℕ, _+_, _-_, _*_, _≤_, _<_}
+use lib.ListN.{length}
+use mathlib.Core.Bool.{true, false}
+use Rattle.queues.proofs.Writers as writers
+use Rattle.queues.proofs.Folding as folding
+use Rattle.queues.proofs.Writers as writers
+use native.Mathlib.Omega.{arith}
+use borrow.Author.Needs.{needs}
+use Rattle.queues.proofs.is_due.Statement.{statement}
+use Rattle.queues.proofs.is_due.Tie as tie
+use Rattle.queues.proofs.is_due.Reads as reads
+use Rattle.queues.proofs.is_due.Lts as lts
+use Rattle.frame.proofs.expired.Reads as expired-reads
+
+enum-told : tie.Need-enum-told
+enum-told c = search needs
+
+returns : tie.Need-returns
+returns c = writers.due-never (c .before .before .args .now) (c .enum-told .given .1)
+
+enum-known-expiry : tie.Need-enum-known-expiry
+enum-known-expiry c = search needs
+
+expired-requires : tie.Need-expired-requires
+expired-requires c κs = search needs
+
+returns-2 : tie.Need-returns-2
+returns-2 c = writers.due-at (c .before .before .before .before .args .now) (c .before .before .expiry .given .0 .0) _ _ (c .before .before .expiry .given .1) (c .expired .ensures) (toZ-ofZ (record { sfits = c .before .known-told .given .0 .1 })) (toZ-ofZ (c .before .before .before .before .fits .now))
+
+pub is-due-spec : {M : Type 1} → statement M
+is-due-spec = tie.close (tie.spec enum-told returns enum-known-expiry expired-requires returns-2)
