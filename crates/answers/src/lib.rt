@@ -7,15 +7,14 @@ use queues::Ending;
 ghost use mathlib.Core.Path.{_≡_};
 ghost use mathlib.Core.Option.{none, some};
 ghost use Rattle.model.specs.Event.{ProviderEvent};
-ghost use Rattle.model.specs.Seam.{Failure};
 ghost use Rattle.model.specs.Formats.{eventF};
-ghost use Rattle.model.specs.Sync.{observe-write, written, deleted, read-again, write-failed, on-edit-write, edit-read-found, edit-read-answered, on-edit-read};
+ghost use Rattle.model.specs.Sync.{observe-write, written, deleted, read-again, write-failed, on-edit-write};
 ghost use Rattle.state.specs.Contract.{HasState};
 ghost use Rattle.state.specs.Values.{name-of, Named};
 ghost use Rattle.records.specs.Events.{IsEvent};
-ghost use Rattle.frame.specs.Meaning.{eventAt, meantFailure, meantOutcome};
+ghost use Rattle.frame.specs.Meaning.{meantFailure, meantOutcome};
 ghost use Rattle.machine.specs.Contract.{Does};
-ghost use Rattle.answers.specs.Valid.{ValidOutcome};
+ghost use Rattle.answers.specs.Valid.{ValidOutcome, write-not-found};
 
 // SyncState::observe_write, of an event
 fn observe_written(
@@ -96,7 +95,7 @@ fn read_again(work: &mut [u8], out: &mut [u8], p: Progress, name: Name) -> Progr
 fn not_found(work: &mut [u8], out: &mut [u8], p: Progress, id: u64, name: Name) -> Progress
     requires { ⌜ HasState (now work) ⌝ }
     requires { ⌜ Named (name .bytes) ⌝ }
-    ensures { λ r. ⌜ Does (write-failed id (name-of (name .bytes)) Failure.NotFound) (now (work .entry)) (now (out .entry)) p r (now (work .exit)) (now (out .exit)) ⌝ }
+    ensures { λ r. ⌜ Does (write-not-found id (name-of (name .bytes))) (now (work .entry)) (now (out .entry)) p r (now (work .exit)) (now (out .exit)) ⌝ }
 {
     let case = waiting::operation_case(work, name, 0);
     if case == 2 {

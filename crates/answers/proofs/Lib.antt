@@ -1,0 +1,2 @@
+-- The answers to writes.
+pub mod Writes
