@@ -1,7 +1,6 @@
+-- At most as many are found as were tried. Assumes nothing.
 use borrow.Author.Needs.{needs}
-use Prim.Native.Nat.{_+_, _*_, _-_, _≤_}
-use mathlib.Core.Path.{_≡_}
-use lib.ListN.{length}
+use Prim.Native.Nat.{_-_, _≤_}
 use Rattle.frame_test.proofs.damage.prefixes.Statement.{statement}
 use Rattle.frame_test.proofs.damage.prefixes.Tie as tie
 

@@ -1,5 +1,6 @@
+-- At most as many are found as were tried, and `out` keeps its length. Assumes nothing.
 use borrow.Author.Needs.{needs}
-use Prim.Native.Nat.{_+_, _*_, _-_, _≤_}
+use Prim.Native.Nat.{_-_, _≤_}
 use mathlib.Core.Path.{_≡_}
 use lib.ListN.{length}
 use Rattle.frame_test.proofs.damage.values.Statement.{statement}

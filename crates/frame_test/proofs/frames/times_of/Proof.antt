@@ -1,5 +1,6 @@
+-- The loop keeps the length of `out`; what is left of n is the measure. Assumes nothing.
 use borrow.Author.Needs.{needs}
-use Prim.Native.Nat.{_+_, _*_, _-_, _≤_}
+use Prim.Native.Nat.{_-_}
 use mathlib.Core.Path.{_≡_}
 use lib.ListN.{length}
 use Rattle.frame_test.proofs.frames.times_of.Statement.{statement}
