@@ -1,5 +1,5 @@
 -- Expiry, and the parts of an edit as they are written into a buffer. Assumes nothing.
-use Prim.Native.Nat.{ℕ, zero, suc, _+_, _-_, _^_, _≤_, _<_, Ordering, Ordering·lt, Ordering·eq, Ordering·gt}
+use Prim.Native.Nat.{ℕ, suc, _+_, _-_, _^_, _≤_, _<_, Ordering, Ordering·lt, Ordering·eq, Ordering·gt}
 use native.Mathlib.Nat.{lt-of-le-of-lt}
 use native.Mathlib.Omega.{arith}
 use mathlib.Core.Path.{_≡_, refl, sym, ap, ap₂, _∙_, subst}
@@ -22,7 +22,6 @@ use Rattle.model.specs.Parts as parts
 use Rattle.model.specs.Edits as edits
 use Rattle.model.specs.Formats.{resourceId, shortText, roleF, operationF, fieldsF, eventF}
 use Rattle.model.specs.Limits.{max-id, max-text}
-use Rattle.model.specs.State.{SyncState}
 use Rattle.model.specs.Maps.{is-some-and, by-name, same-text}
 use Rattle.model.specs.Sync.{is-attendee}
 use Rattle.spans.specs.Compare.{order}
@@ -30,9 +29,9 @@ use Rattle.spans.specs.declared.Order.{Order}
 use Rattle.spans.specs.declared.Order.the-variants.{Less, Equal, Greater}
 use Rattle.state.proofs.Orders.{flipped, name-order}
 use Rattle.model.proofs.FormatsLaws.{fieldsF-law, eventF-law}
-use Rattle.frame.specs.Read.{stepped, gotAt, skips, valueOf, valueAt}
+use Rattle.frame.specs.Read.{stepped, skips, valueOf, valueAt}
 use Rattle.frame.proofs.Stood.{fields-stand, event-stands}
-use Rattle.frame.specs.Meaning.{standsAt, textAt, fieldsAt, eventAt, resourceAt, meantRole, meantExpiry, meantOperation, noFields, noEvent}
+use Rattle.frame.specs.Meaning.{standsAt, textAt, fieldsAt, eventAt, meantRole, meantExpiry, meantOperation, noFields, noEvent}
 use Rattle.frame.specs.declared.Expiry.{Expiry}
 use Rattle.frame.specs.declared.Expiry.the-variants.{Never, At}
 use Rattle.frame.specs.declared.Role.{Role}
@@ -43,11 +42,11 @@ use Rattle.pens.specs.declared.Pen.{Pen}
 use Rattle.pens.specs.Writing.{Wrote, Stands}
 use Rattle.pens.proofs.Laws.{wrote-then}
 use Rattle.effects.specs.Sent.{pen}
-use Rattle.state.specs.Layout.{padded, name-slot}
+use Rattle.state.specs.Layout.{padded}
 use Rattle.state.specs.Values.{number-in, bits-in, name-of, Named}
 use Rattle.state.specs.declared.Numbered.{Numbered}
 use Rattle.state.specs.declared.Numbered.the-variants as numbered
-use Rattle.state.specs.Contract.{Keeps, Reads}
+use Rattle.state.specs.Contract.{Reads}
 use Rattle.state.proofs.Widths as widths
 use Rattle.state.proofs.Ops.{slot-named}
 use Rattle.waiting.proofs.Writes.{drop-zeros}
