@@ -40,8 +40,8 @@ use Rattle.queues.specs.declared.Folded.{Folded}
 use Rattle.queues.specs.declared.Folded.the-variants.{Apart, Into, Cancelled}
 use Rattle.queues.specs.Folding.{event-front, fold-update, fold-create, Folds, FoldedAs}
 use Rattle.queues.proofs.Parts.{after, part-in}
-use Rattle.queues.proofs.Writers.{filled, fields-there}
-use Rattle.queues.proofs.Notices.{stands-event, stands-field}
+use Rattle.queues.proofs.Writers.{filled, fields-there, update-bytes, delete-bytes}
+use Rattle.queues.proofs.Notices.{stands-event, stands-field, create-bytes}
 
 -- ---- one value behind another
 
@@ -144,10 +144,6 @@ place-of-fields b at {c₁} {c₂} {c₃} l p q R e S =
 case-byte : (b : List ℕ) (at : ℕ) (x : ℕ) (y : List ℕ) → drop at b ≡ x ∷ y → getD b at 0 ≡ x
 case-byte b at x y e = ap (λ (i : ℕ). getD b i 0) (sym (add-zero at)) ∙ sym (getD-drop at b 0 0) ∙ ap (λ (l : List ℕ). getD l 0 0) e
 
-update-bytes : (x y : NormalizedEvent) → operationF .enc (Operation.Update x y) ≡ 1 ∷ (fieldsF .enc x ++ fieldsF .enc y)
-unfolding operationF via enum _∣_ _⊗_
-update-bytes x y = refl
-
 pair-bytes : (x y : NormalizedEvent) → (fieldsF ⊗ fieldsF) .enc (x, y) ≡ fieldsF .enc x ++ fieldsF .enc y
 unfolding _⊗_
 pair-bytes x y = refl
@@ -164,17 +160,9 @@ update-ok : (x y : NormalizedEvent) → fieldsF .Ok x → fieldsF .Ok y → oper
 unfolding operationF via enum _∣_ _⊗_
 update-ok x y j k = (j, k)
 
-create-bytes : (e : ProviderEvent) → operationF .enc (Operation.Create e) ≡ 0 ∷ eventF .enc e
-unfolding operationF via enum _∣_
-create-bytes e = refl
-
 create-ok : (e : ProviderEvent) → eventF .Ok e → operationF .Ok (Operation.Create e)
 unfolding operationF via enum _∣_
 create-ok e k = k
-
-delete-bytes : operationF .enc Operation.Delete ≡ 2 ∷ []
-unfolding operationF via enum _∣_ nothing
-delete-bytes = refl
 
 delete-ok : operationF .Ok Operation.Delete
 unfolding operationF via enum _∣_ nothing

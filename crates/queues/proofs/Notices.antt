@@ -49,11 +49,11 @@ stands-field f v w at width k e = record {
   is = sym (take-append-drop width (drop at w)) ∙ ap (λ (x : List ℕ). x ++ drop width (drop at w)) e ∙ append-assoc (f .enc v) (zeros (width - length (f .enc v))) (drop width (drop at w));
 }
 
-create-bytes : (e : ProviderEvent) → operationF .enc (Operation.Create e) ≡ 0 ∷ eventF .enc e
+pub create-bytes : (e : ProviderEvent) → operationF .enc (Operation.Create e) ≡ 0 ∷ eventF .enc e
 unfolding operationF via enum _∣_
 create-bytes e = refl
 
-create-ok : (e : ProviderEvent) → operationF .Ok (Operation.Create e) → eventF .Ok e
+pub create-ok : (e : ProviderEvent) → operationF .Ok (Operation.Create e) → eventF .Ok e
 unfolding operationF via enum _∣_
 create-ok e k = k
 

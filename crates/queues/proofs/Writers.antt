@@ -50,6 +50,7 @@ use Rattle.state.specs.Contract.{Reads}
 use Rattle.state.proofs.Widths as widths
 use Rattle.state.proofs.Ops.{slot-named}
 use Rattle.waiting.proofs.Writes.{drop-zeros}
+use Rattle.queues.proofs.Notices.{create-bytes, create-ok}
 use Rattle.queues.specs.Parts.{StandsAt, PartOf, Filled}
 
 -- ---- bits of a time
@@ -237,21 +238,13 @@ expiry-at {b} {b₁} {b′} {p} {p₁} {q} {e} z n l k d f a W Y =
     let x : option stamp .enc (meantExpiry e) ≡ 1 ∷ bigEndian 8 n = ap (λ (y : Expiry). option stamp .enc (meantExpiry y)) d ∙ time-bytes z ∙ ap (λ (i : ℕ). 1 ∷ bigEndian 8 i) (sym f) in
     filled 9 a (subst (λ (y : List ℕ). Wrote b b′ p q y) (sym x) (wrote-then W Y)) (widths.time-within .most (meantExpiry e) k) l
 
-create-bytes : (e : ProviderEvent) → operationF .enc (edits.Operation.Create e) ≡ 0 ∷ eventF .enc e
-unfolding operationF via enum _∣_
-create-bytes e = refl
-
-update-bytes : (x y : NormalizedEvent) → operationF .enc (edits.Operation.Update x y) ≡ 1 ∷ (fieldsF .enc x ++ fieldsF .enc y)
+pub update-bytes : (x y : NormalizedEvent) → operationF .enc (edits.Operation.Update x y) ≡ 1 ∷ (fieldsF .enc x ++ fieldsF .enc y)
 unfolding operationF via enum _∣_ _⊗_
 update-bytes x y = refl
 
-delete-bytes : operationF .enc edits.Operation.Delete ≡ 2 ∷ []
+pub delete-bytes : operationF .enc edits.Operation.Delete ≡ 2 ∷ []
 unfolding operationF via enum _∣_ nothing
 delete-bytes = refl
-
-create-ok : (e : ProviderEvent) → operationF .Ok (edits.Operation.Create e) → eventF .Ok e
-unfolding operationF via enum _∣_
-create-ok e k = k
 
 update-ok : (x y : NormalizedEvent) → operationF .Ok (edits.Operation.Update x y) → fieldsF .Ok x × fieldsF .Ok y
 unfolding operationF via enum _∣_ _⊗_
