@@ -1,11 +1,11 @@
 -- Edits that are folded into others: what the bytes of a waiting operation and of a new one make together. Assumes nothing.
-use Prim.Native.Nat.{ℕ, zero, suc, _+_, _-_, _≤_, _<_}
+use Prim.Native.Nat.{ℕ, _+_, _-_, _≤_, _<_}
 use native.Mathlib.Nat.{add-zero}
 use native.Mathlib.Omega.{arith}
 use mathlib.Core.Path.{_≡_, refl, sym, ap, ap₂, _∙_, subst}
 use mathlib.Core.List.{List, [], _∷_, _++_, append-assoc}
-use mathlib.Core.Option.{Option, none, some, Option·some-injective, Option·none-ne-some}
-use mathlib.Core.Bool.{Bool, true, false, not, false≢true}
+use mathlib.Core.Option.{Option, none, some}
+use mathlib.Core.Bool.{Bool, true, false, not}
 use lib.ListN.{length, take, drop, getD, length-append, length-drop}
 use lib.Seq.{drop-drop, drop-at, take-at, getD-drop}
 use borrow.Author.Tests.{le-leb, lt-leb}
@@ -17,15 +17,13 @@ use Rattle.model.specs.Seam.{ResourceId}
 use Rattle.model.specs.Formats.{same, resourceId, shortText, u32, tag, idsF, fieldsF, eventF, operationF, roleF, editF}
 use Rattle.model.specs.Maps.{if_then_else_, same-text}
 use Rattle.model.specs.State.{Pending, Queue, SyncState}
-use Rattle.model.specs.Sync.{Coalesced, with-fields, is-attendee, fold-operation, coalesce, coalesced-with, foldable, back}
+use Rattle.model.specs.Sync.{Coalesced, with-fields, is-attendee, fold-operation, coalesce, coalesced-with, foldable}
 use Rattle.model.proofs.FormatsLaws.{idsF-law, fieldsF-law}
 use Rattle.frame.specs.Read.{skips, Found}
-use Rattle.frame.specs.Meaning as meaning
-use Rattle.frame.specs.Meaning.{fieldsAt, meantRole, meantOperation, meantEdit}
+use Rattle.frame.specs.Meaning.{fieldsAt, meantOperation}
 use Rattle.frame.specs.declared.Cursor.{Cursor}
 use Rattle.frame.specs.declared.Operation as places
 use Rattle.frame.specs.declared.Operation.the-variants as place
-use Rattle.frame.specs.declared.Edit as edit-places
 use Rattle.pens.specs.declared.Pen.{Pen}
 use Rattle.pens.specs.Writing.{Wrote}
 use Rattle.pens.proofs.Laws.{wrote-then}
@@ -37,13 +35,13 @@ use Rattle.state.proofs.Widths as widths
 use Rattle.waiting.specs.Queues.{queue, nth}
 use Rattle.waiting.specs.Entries.{SomeEntryAt, EntryIs, FindsEntry}
 use Rattle.waiting.proofs.Lists.{nth-back}
-use Rattle.queues.specs.Parts.{StandsAt, PartOf, EndOf, Filled, part-of}
+use Rattle.queues.specs.Parts.{StandsAt, PartOf, EndOf, part-of}
 use Rattle.queues.specs.declared.Folded.{Folded}
 use Rattle.queues.specs.declared.Folded.the-variants.{Apart, Into, Cancelled}
-use Rattle.queues.specs.Folding.{event-front, fold-update, fold-create, FoldedInto, Folds, FoldedAs}
+use Rattle.queues.specs.Folding.{event-front, fold-update, fold-create, Folds, FoldedAs}
 use Rattle.queues.proofs.Parts.{after, part-in}
-use Rattle.queues.proofs.Writers.{filled, fields-there}
-use Rattle.queues.proofs.Notices.{stands-event, stands-field}
+use Rattle.queues.proofs.Writers.{filled, fields-there, update-bytes, delete-bytes}
+use Rattle.queues.proofs.Notices.{stands-event, stands-field, create-bytes}
 
 -- ---- one value behind another
 
@@ -146,10 +144,6 @@ place-of-fields b at {c₁} {c₂} {c₃} l p q R e S =
 case-byte : (b : List ℕ) (at : ℕ) (x : ℕ) (y : List ℕ) → drop at b ≡ x ∷ y → getD b at 0 ≡ x
 case-byte b at x y e = ap (λ (i : ℕ). getD b i 0) (sym (add-zero at)) ∙ sym (getD-drop at b 0 0) ∙ ap (λ (l : List ℕ). getD l 0 0) e
 
-update-bytes : (x y : NormalizedEvent) → operationF .enc (Operation.Update x y) ≡ 1 ∷ (fieldsF .enc x ++ fieldsF .enc y)
-unfolding operationF via enum _∣_ _⊗_
-update-bytes x y = refl
-
 pair-bytes : (x y : NormalizedEvent) → (fieldsF ⊗ fieldsF) .enc (x, y) ≡ fieldsF .enc x ++ fieldsF .enc y
 unfolding _⊗_
 pair-bytes x y = refl
@@ -166,17 +160,9 @@ update-ok : (x y : NormalizedEvent) → fieldsF .Ok x → fieldsF .Ok y → oper
 unfolding operationF via enum _∣_ _⊗_
 update-ok x y j k = (j, k)
 
-create-bytes : (e : ProviderEvent) → operationF .enc (Operation.Create e) ≡ 0 ∷ eventF .enc e
-unfolding operationF via enum _∣_
-create-bytes e = refl
-
 create-ok : (e : ProviderEvent) → eventF .Ok e → operationF .Ok (Operation.Create e)
 unfolding operationF via enum _∣_
 create-ok e k = k
-
-delete-bytes : operationF .enc Operation.Delete ≡ 2 ∷ []
-unfolding operationF via enum _∣_ nothing
-delete-bytes = refl
 
 delete-ok : operationF .Ok Operation.Delete
 unfolding operationF via enum _∣_ nothing

@@ -1,13 +1,12 @@
 -- The head of a queue: what its bytes say, and the effects that it gives. Assumes nothing.
-use Prim.Native.Nat.{ℕ, zero, suc, _+_, _-_, _≤_, _<_}
+use Prim.Native.Nat.{ℕ, _+_, _-_, _≤_, _<_}
 use native.Mathlib.Nat.{add-zero}
 use native.Mathlib.Omega.{arith}
 use mathlib.Core.Path.{_≡_, refl, sym, ap, ap₂, _∙_, subst}
-use mathlib.Core.List.{List, [], _∷_, _++_}
-use mathlib.Core.Option.{Option, none, some, Option·some-injective, Option·none-ne-some}
+use mathlib.Core.List.{List, [], _∷_}
 use mathlib.Core.Bool.{Bool, true, false, _&&_}
 use lib.Dec.{eqb}
-use lib.ListN.{length, take, drop, getD}
+use lib.ListN.{take, drop, getD}
 use lib.Seq.{getD-take, getD-drop}
 use Rattle.format.specs.Format.{enum, _∣_, via, below, _⊗_}
 use Rattle.tables.specs.declared.Place.{Place}
@@ -18,15 +17,22 @@ use Rattle.model.specs.Seam as seam
 use Rattle.model.specs.Edits.{Operation}
 use Rattle.model.specs.Shapes.{providerFrom}
 use Rattle.model.specs.Formats.{operationF, eventF, idsF, providerF}
-use Rattle.model.specs.State.{Pending, SyncState, Purpose}
+use Rattle.model.specs.State.{Pending, Purpose}
 use Rattle.model.specs.Maps.{if_then_else_, is-some-and, first}
-use Rattle.model.specs.Machine.{Machine, Run, match_none:_some:_, request, queue-of}
+use Rattle.model.specs.Machine.{Machine, request}
 use Rattle.model.specs.Sync.{is-graph, assigns-ids, creates-under-key, looks-up, head, read-for-edit}
 use Rattle.state.specs.Layout.{padded, field}
+<<<<<<< HEAD
 use Rattle.state.specs.Contract.{Keeps, HasState, Reads}
 use Rattle.waiting.specs.Queues.{queue, queue-in, nth}
 use Rattle.waiting.specs.Entries.{EntryAt, SomeEntryAt, EntryIs, FindsEntry}
 use Rattle.waiting.proofs.Bridge.{queue-is}
+=======
+use Rattle.state.specs.Contract.{HasState, Reads}
+use Rattle.waiting.specs.Queues.{queue, nth}
+use Rattle.waiting.specs.Entries.{SomeEntryAt, EntryIs, FindsEntry}
+use Rattle.waiting.proofs.Cuts.{queue-is}
+>>>>>>> 99702ad1d0eba239591e7ba85f395ad1439e4dfb
 use Rattle.machine.specs.declared.Progress.{Progress}
 use Rattle.machine.specs.Contract.{Does}
 use Rattle.machine.proofs.Runs as runs

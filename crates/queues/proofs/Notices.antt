@@ -2,10 +2,9 @@
 use Prim.Native.Nat.{ℕ, zero, suc, _+_, _-_, _≤_, _<_}
 use native.Mathlib.Numerals.{add-one}
 use native.Mathlib.Omega.{arith}
-use mathlib.Core.Path.{_≡_, refl, sym, ap, ap₂, _∙_, subst}
+use mathlib.Core.Path.{_≡_, refl, sym, ap, _∙_, subst}
 use mathlib.Core.List.{List, [], _∷_, _++_, append-assoc}
 use mathlib.Core.Option.{Option, none, some, Option·some-injective, Option·none-ne-some}
-use mathlib.Core.Bool.{Bool, true, false}
 use lib.ListN.{length, take, drop, take-append-drop}
 use lib.Seq.{drop-drop, take-all}
 use Rattle.format.specs.Format.{Format, enum, _∣_, via}
@@ -19,19 +18,18 @@ use Rattle.model.specs.Edits.{Operation, EditId}
 use Rattle.model.specs.Calls.{Rejection, Notice, Effect}
 use Rattle.model.specs.Formats.{operationF, eventF, conflictsF, refusalsF}
 use Rattle.model.specs.State.{Pending, SyncState, Purpose}
-use Rattle.model.specs.Maps.{if_then_else_, by-number, insert}
-use Rattle.model.specs.Machine.{Machine, Run, refused, ok, _>>=_, for-each, match_none:_some:_, within, tell, push, request, set-in-flight, set-next-request, queue-of}
+use Rattle.model.specs.Machine.{Machine, Run, refused, ok, _>>=_, for-each, match_none:_some:_, tell, push, request, set-in-flight, set-next-request, queue-of}
 use Rattle.model.specs.Sync.{ids-of, ending, notify}
 use Rattle.model.proofs.Holds as model
 use Rattle.pens.specs.declared.Pen.{Pen}
 use Rattle.effects.specs.Told.{Told, ToldOf, ToldOfBoth}
-use Rattle.state.specs.Layout.{padded, field, name-slot}
+use Rattle.state.specs.Layout.{padded, field}
 use Rattle.state.specs.Values.{name-of}
-use Rattle.state.specs.Contract.{Keeps, HasState, Reads}
+use Rattle.state.specs.Contract.{Keeps, Reads}
 use Rattle.state.proofs.Padded.{text-name-only}
 use Rattle.waiting.specs.Queues.{queue, queue-in, nth}
 use Rattle.waiting.proofs.Cuts.{queue-is}
-use Rattle.waiting.specs.Entries.{EntryAt, SomeEntryAt, EntryIs, FindsEntry}
+use Rattle.waiting.specs.Entries.{SomeEntryAt, EntryIs, FindsEntry}
 use Rattle.waiting.specs.Reading.{nth-id, ReadsId, ids-number}
 use Rattle.machine.specs.declared.Progress.{Progress}
 use Rattle.machine.specs.Contract.{Holds, Ran, Does, Changes, Pushes}
@@ -51,11 +49,11 @@ stands-field f v w at width k e = record {
   is = sym (take-append-drop width (drop at w)) ∙ ap (λ (x : List ℕ). x ++ drop width (drop at w)) e ∙ append-assoc (f .enc v) (zeros (width - length (f .enc v))) (drop width (drop at w));
 }
 
-create-bytes : (e : ProviderEvent) → operationF .enc (Operation.Create e) ≡ 0 ∷ eventF .enc e
+pub create-bytes : (e : ProviderEvent) → operationF .enc (Operation.Create e) ≡ 0 ∷ eventF .enc e
 unfolding operationF via enum _∣_
 create-bytes e = refl
 
-create-ok : (e : ProviderEvent) → operationF .Ok (Operation.Create e) → eventF .Ok e
+pub create-ok : (e : ProviderEvent) → operationF .Ok (Operation.Create e) → eventF .Ok e
 unfolding operationF via enum _∣_
 create-ok e k = k
 

@@ -2,14 +2,13 @@
 use Prim.Native.Nat.{ℕ, zero, suc, _+_, _-_, _≤_, _<_}
 use native.Mathlib.Omega.{arith}
 use mathlib.Core.Path.{_≡_, refl, sym, ap, _∙_, subst}
-use mathlib.Core.List.{List, [], _∷_, _++_}
-use mathlib.Core.Option.{some}
+use mathlib.Core.List.{List, [], _∷_}
 use mathlib.Core.Bool.{Bool, true, false, _&&_}
 use lib.Dec.{leb, eqb}
-use lib.ListN.{length, take, drop, getD, length-append, length-drop, drop-of-length-le}
+use lib.ListN.{length, take, drop, getD, length-append, length-drop}
 use lib.Seq.{take-at}
 use borrow.Author.Tests.{le-leb, lt-leb, leb-true, leb-false, eq-eqb, ne-eqb}
-use Rattle.format.specs.Format.{Got, Format, Lawful}
+use Rattle.format.specs.Format.{Format, Lawful}
 use Rattle.tables.specs.Table.{text}
 use Rattle.model.specs.Maps.{if_then_else_}
 use Rattle.frame.specs.Read.{stepped, skips}

@@ -1,12 +1,11 @@
 -- `enqueue`: an entry appended, folded into or cancelled, and the resource that an edit is for. Assumes nothing.
-use Prim.Native.Nat.{ℕ, zero, suc, _+_, _-_, _≤_, _<_}
+use Prim.Native.Nat.{ℕ, suc, _+_, _-_, _≤_}
 use native.Mathlib.Omega.{arith}
 use mathlib.Core.Path.{_≡_, refl, sym, ap, ap₂, _∙_, subst}
 use mathlib.Core.List.{List, [], _∷_, _++_}
-use mathlib.Core.Option.{Option, none, some, Option·some-injective, Option·none-ne-some}
+use mathlib.Core.Option.{Option, none, some, Option·none-ne-some}
 use mathlib.Core.Bool.{Bool, true, false}
 use lib.Dec.{leb}
-use lib.IntN.{ℤ}
 use lib.Signed.{leZ}
 use lib.ListN.{length, take, drop}
 use Rattle.format.specs.Format.{option, stamp, list}
@@ -28,11 +27,11 @@ use Rattle.frame.specs.declared.Operation.the-variants as place-of
 use Rattle.state.specs.Values.{name-of, name-in}
 use Rattle.state.specs.Contract.{Keeps, HasState, Reads, Edits, Tries}
 use Rattle.waiting.specs.Queues.{queue, put-queue, all-entries, nth, without, change-last, may-absorb}
-use Rattle.waiting.specs.Entries.{EditBytes, IsEdit, FoldBytes}
+use Rattle.waiting.specs.Entries.{EditBytes, FoldBytes}
 use Rattle.waiting.proofs.Cuts.{queue-is, entries-is}
 use Rattle.waiting.proofs.Lists.{nth-back}
 use Rattle.machine.specs.declared.Progress.{Progress}
-use Rattle.machine.specs.Contract.{Holds, Ran, Does, Changes, Pushes}
+use Rattle.machine.specs.Contract.{Ran, Does, Changes, Pushes}
 use Rattle.machine.specs.Steps.{tried-by}
 use Rattle.machine.proofs.Runs as runs
 use Rattle.machine.proofs.Steps as steps
@@ -44,7 +43,7 @@ use Rattle.queues.specs.Folding.{FoldedInto, Folds, FoldedAs}
 use Rattle.queues.specs.Enqueue.{append-entry, append-to, fold-last, cancel-last, target-of}
 use Rattle.queues.proofs.Parts.{part-in, take-short}
 use Rattle.queues.proofs.Starts.{set-queue-is, notify-apart, bind-same, bind-assoc}
-use Rattle.queues.proofs.Folding.{EditOk, edit-parts}
+use Rattle.queues.proofs.Folding.{edit-parts}
 
 pub resource-is : (r : ResourceId) (e : Edit) → with-resource r e .resource ≡ r
 unfolding with-resource

@@ -1,9 +1,9 @@
 -- `start_edit` and `finish`: what each does in terms of the other, and that the queue's length falls at each round. Assumes nothing.
-use Prim.Native.Nat.{ℕ, zero, suc, _+_, _-_, _*_, _≤_, _<_}
+use Prim.Native.Nat.{ℕ, _+_, _-_, _*_, _<_}
 use native.Mathlib.Omega.{arith}
-use mathlib.Core.Path.{_≡_, refl, sym, ap, ap₂, _∙_, subst}
+use mathlib.Core.Path.{_≡_, refl, sym, ap, _∙_, subst}
 use mathlib.Core.List.{List, [], _∷_, _++_}
-use mathlib.Core.Option.{Option, none, some, Option·some-injective, Option·none-ne-some}
+use mathlib.Core.Option.{Option, none, some}
 use mathlib.Core.Bool.{Bool, true, false}
 use lib.Dec.{leb, T}
 use lib.ListN.{length, take, drop}
@@ -17,16 +17,15 @@ use Rattle.model.specs.Calls.{Rejection, Notice, Effect}
 use Rattle.model.specs.Limits.{max-effects, document01}
 use Rattle.model.specs.Formats.{enc-effects}
 use Rattle.model.specs.State.{Pending, Queue, SyncState, Purpose}
-use Rattle.model.specs.Maps.{if_then_else_, is-some-and, by-name, keys, first}
+use Rattle.model.specs.Maps.{if_then_else_, is-some-and, by-name, keys}
 use Rattle.model.specs.Machine.{Machine, Run, refused, ok, _>>=_, for-each, match_none:_some:_, tell, push, request, with-state, set-edits, queue-of, set-queue}
 use Rattle.model.specs.Sync.{assigns-ids, is-attendee, creates-under-key, head, ids-of, ending, notify, read-for-edit, start-head, start-edit, finish-queue, finish}
 use Rattle.model.specs.WellFormed.{rising}
 use Rattle.model.proofs.Holds as model
-use Rattle.model.proofs.Flights.{found}
 use Rattle.model.proofs.InFlight.{notify-state, found-set}
 use Rattle.model.proofs.Mutual.{finish-is, start-edit-is}
-use Rattle.state.specs.Values.{name-of, Named}
-use Rattle.state.specs.Contract.{Keeps, HasState, Reads, Edits}
+use Rattle.state.specs.Values.{name-of}
+use Rattle.state.specs.Contract.{HasState, Reads, Edits}
 use Rattle.state.proofs.Regions.{layout-same}
 use Rattle.waiting.specs.Queues.{queue, queue-in, put-in, put-queue, nth, without}
 use Rattle.waiting.specs.Reading.{case-of, operation-case-of, by-attendee}
@@ -35,7 +34,7 @@ use Rattle.waiting.proofs.Bridge.{queue-is, put-is}
 use Rattle.waiting.proofs.Splices as splices
 use Rattle.waiting.proofs.Laws as waiting
 use Rattle.machine.specs.declared.Progress.{Progress}
-use Rattle.machine.specs.Contract.{Holds, Ran, Does}
+use Rattle.machine.specs.Contract.{Holds, Does}
 use Rattle.machine.proofs.Runs as runs
 use Rattle.queues.specs.declared.Beginning.{Beginning}
 use Rattle.queues.specs.declared.Beginning.the-variants as Begin

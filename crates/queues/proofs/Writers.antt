@@ -1,5 +1,5 @@
 -- Expiry, and the parts of an edit as they are written into a buffer. Assumes nothing.
-use Prim.Native.Nat.{ℕ, zero, suc, _+_, _-_, _^_, _≤_, _<_, Ordering, Ordering·lt, Ordering·eq, Ordering·gt}
+use Prim.Native.Nat.{ℕ, suc, _+_, _-_, _^_, _≤_, _<_, Ordering, Ordering·lt, Ordering·eq, Ordering·gt}
 use native.Mathlib.Nat.{lt-of-le-of-lt}
 use native.Mathlib.Omega.{arith}
 use mathlib.Core.Path.{_≡_, refl, sym, ap, ap₂, _∙_, subst}
@@ -22,7 +22,6 @@ use Rattle.model.specs.Parts as parts
 use Rattle.model.specs.Edits as edits
 use Rattle.model.specs.Formats.{resourceId, shortText, roleF, operationF, fieldsF, eventF}
 use Rattle.model.specs.Limits.{max-id, max-text}
-use Rattle.model.specs.State.{SyncState}
 use Rattle.model.specs.Maps.{is-some-and, by-name, same-text}
 use Rattle.model.specs.Sync.{is-attendee}
 use Rattle.spans.specs.Compare.{order}
@@ -30,9 +29,9 @@ use Rattle.spans.specs.declared.Order.{Order}
 use Rattle.spans.specs.declared.Order.the-variants.{Less, Equal, Greater}
 use Rattle.state.proofs.Orders.{flipped, name-order}
 use Rattle.model.proofs.FormatsLaws.{fieldsF-law, eventF-law}
-use Rattle.frame.specs.Read.{stepped, gotAt, skips, valueOf, valueAt}
+use Rattle.frame.specs.Read.{stepped, skips, valueOf, valueAt}
 use Rattle.frame.proofs.Stood.{fields-stand, event-stands}
-use Rattle.frame.specs.Meaning.{standsAt, textAt, fieldsAt, eventAt, resourceAt, meantRole, meantExpiry, meantOperation, noFields, noEvent}
+use Rattle.frame.specs.Meaning.{standsAt, textAt, fieldsAt, eventAt, meantRole, meantExpiry, meantOperation, noFields, noEvent}
 use Rattle.frame.specs.declared.Expiry.{Expiry}
 use Rattle.frame.specs.declared.Expiry.the-variants.{Never, At}
 use Rattle.frame.specs.declared.Role.{Role}
@@ -43,14 +42,15 @@ use Rattle.pens.specs.declared.Pen.{Pen}
 use Rattle.pens.specs.Writing.{Wrote, Stands}
 use Rattle.pens.proofs.Laws.{wrote-then}
 use Rattle.effects.specs.Sent.{pen}
-use Rattle.state.specs.Layout.{padded, name-slot}
+use Rattle.state.specs.Layout.{padded}
 use Rattle.state.specs.Values.{number-in, bits-in, name-of, Named}
 use Rattle.state.specs.declared.Numbered.{Numbered}
 use Rattle.state.specs.declared.Numbered.the-variants as numbered
-use Rattle.state.specs.Contract.{Keeps, Reads}
+use Rattle.state.specs.Contract.{Reads}
 use Rattle.state.proofs.Widths as widths
 use Rattle.state.proofs.Ops.{slot-named}
 use Rattle.waiting.proofs.Writes.{drop-zeros}
+use Rattle.queues.proofs.Notices.{create-bytes, create-ok}
 use Rattle.queues.specs.Parts.{StandsAt, PartOf, Filled}
 
 -- ---- bits of a time
@@ -238,21 +238,13 @@ expiry-at {b} {b₁} {b′} {p} {p₁} {q} {e} z n l k d f a W Y =
     let x : option stamp .enc (meantExpiry e) ≡ 1 ∷ bigEndian 8 n = ap (λ (y : Expiry). option stamp .enc (meantExpiry y)) d ∙ time-bytes z ∙ ap (λ (i : ℕ). 1 ∷ bigEndian 8 i) (sym f) in
     filled 9 a (subst (λ (y : List ℕ). Wrote b b′ p q y) (sym x) (wrote-then W Y)) (widths.time-within .most (meantExpiry e) k) l
 
-create-bytes : (e : ProviderEvent) → operationF .enc (edits.Operation.Create e) ≡ 0 ∷ eventF .enc e
-unfolding operationF via enum _∣_
-create-bytes e = refl
-
-update-bytes : (x y : NormalizedEvent) → operationF .enc (edits.Operation.Update x y) ≡ 1 ∷ (fieldsF .enc x ++ fieldsF .enc y)
+pub update-bytes : (x y : NormalizedEvent) → operationF .enc (edits.Operation.Update x y) ≡ 1 ∷ (fieldsF .enc x ++ fieldsF .enc y)
 unfolding operationF via enum _∣_ _⊗_
 update-bytes x y = refl
 
-delete-bytes : operationF .enc edits.Operation.Delete ≡ 2 ∷ []
+pub delete-bytes : operationF .enc edits.Operation.Delete ≡ 2 ∷ []
 unfolding operationF via enum _∣_ nothing
 delete-bytes = refl
-
-create-ok : (e : ProviderEvent) → operationF .Ok (edits.Operation.Create e) → eventF .Ok e
-unfolding operationF via enum _∣_
-create-ok e k = k
 
 update-ok : (x y : NormalizedEvent) → operationF .Ok (edits.Operation.Update x y) → fieldsF .Ok x × fieldsF .Ok y
 unfolding operationF via enum _∣_ _⊗_

@@ -1,6 +1,5 @@
 -- The statements of `enqueue` by themselves, for the queue that stands under the edit's resource. Assumes nothing.
 use mathlib.Core.List.{[], _∷_, _++_}
-use mathlib.Core.Option.{none, some}
 use lib.Dec.{leb}
 use Rattle.model.specs.Seam.{ResourceId}
 use Rattle.model.specs.Edits.{Operation, Edit}

@@ -2,7 +2,6 @@
 use Prim.Native.Nat.{ℕ, _+_, _-_, _≤_}
 use mathlib.Core.Path.{_≡_}
 use mathlib.Core.List.{List, [], _++_}
-use mathlib.Core.Bool.{Bool}
 use lib.Dec.{leb}
 use lib.ListN.{length, take, drop}
 use Rattle.format.specs.Format.{Format}

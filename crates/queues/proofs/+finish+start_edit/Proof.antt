@@ -1,15 +1,8 @@
 use Rattle.state.specs.Values.{name-of}
-use Rattle.queues.specs.Heads.{rejection-of, notify-first}
+use Rattle.queues.specs.Heads.{rejection-of}
 use Rattle.machine.proofs.Runs as runs
-use mathlib.Core.Path.{_≡_, refl, sym, ap, ap₂, _∙_, subst}
-use Rattle.queues.proofs.Parts as parts
-use Rattle.queues.proofs.Heads as heads
-use Rattle.queues.proofs.Notices as notices
 use Rattle.queues.proofs.Starts as starts
-use Prim.Native.Nat.{ℕ, _+_, _-_, _*_, _≤_, _<_}
-use lib.ListN.{length}
-use mathlib.Core.Bool.{true, false}
-use Rattle.queues.proofs.Writers as writers
+use Prim.Native.Nat.{ℕ, _+_, _-_, _*_, _<_}
 use native.Mathlib.Omega.{arith}
 use borrow.Author.Needs.{needs}
 use borrow.Fn.Kinds.{In}

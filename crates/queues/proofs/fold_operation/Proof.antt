@@ -1,15 +1,6 @@
 use Rattle.frame.specs.Meaning.{eventAt}
-use mathlib.Core.Path.{_≡_, refl, sym, ap, ap₂, _∙_, subst}
-use Rattle.queues.proofs.Parts as parts
-use Rattle.queues.proofs.Heads as heads
-use Rattle.queues.proofs.Notices as notices
-use Rattle.queues.proofs.Starts as starts
-use Prim.Native.Nat.{ℕ, _+_, _-_, _*_, _≤_, _<_}
-use lib.ListN.{length}
-use mathlib.Core.Bool.{true, false}
-use Rattle.queues.proofs.Writers as writers
+use Prim.Native.Nat.{_-_}
 use Rattle.queues.proofs.Folding as folding
-use Rattle.queues.proofs.Writers as writers
 use native.Mathlib.Omega.{arith}
 use borrow.Author.Needs.{needs}
 use Rattle.queues.proofs.fold_operation.Statement.{statement}

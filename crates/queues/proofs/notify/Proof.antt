@@ -1,15 +1,10 @@
 use Rattle.state.specs.Values.{name-of}
 use Rattle.queues.specs.Heads.{rejection-of, notify-first}
 use Rattle.machine.specs.Contract.{Does}
-use mathlib.Core.Path.{_≡_, refl, sym, ap, ap₂, _∙_, subst}
-use Rattle.queues.proofs.Parts as parts
-use Rattle.queues.proofs.Heads as heads
+use mathlib.Core.Path.{_≡_, refl}
 use Rattle.queues.proofs.Notices as notices
-use Rattle.queues.proofs.Starts as starts
-use Prim.Native.Nat.{ℕ, _+_, _-_, _*_, _≤_, _<_}
+use Prim.Native.Nat.{_-_, _≤_}
 use lib.ListN.{length}
-use mathlib.Core.Bool.{true, false}
-use Rattle.queues.proofs.Writers as writers
 use native.Mathlib.Omega.{arith}
 use borrow.Author.Needs.{needs}
 use Rattle.queues.proofs.notify.Statement.{statement}

@@ -2,15 +2,10 @@ use Rattle.machine.proofs.Steps as steps
 use Rattle.frame.specs.Meaning.{meantOutcome}
 use Rattle.model.specs.Sync.{describe}
 use Rattle.model.specs.Calls.{Effect, Notice, Rejection}
-use mathlib.Core.Path.{_≡_, refl, sym, ap, ap₂, _∙_, subst}
+use mathlib.Core.Path.{_≡_, ap}
 use Rattle.queues.proofs.Parts as parts
-use Rattle.queues.proofs.Heads as heads
-use Rattle.queues.proofs.Notices as notices
-use Rattle.queues.proofs.Starts as starts
-use Prim.Native.Nat.{ℕ, _+_, _-_, _*_, _≤_, _<_}
+use Prim.Native.Nat.{_-_}
 use lib.ListN.{length}
-use mathlib.Core.Bool.{true, false}
-use Rattle.queues.proofs.Writers as writers
 use native.Mathlib.Omega.{arith}
 use borrow.Author.Needs.{needs}
 use Rattle.queues.proofs.tell_rejected_by.Statement.{statement}
