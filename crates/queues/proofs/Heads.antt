@@ -22,17 +22,10 @@ use Rattle.model.specs.Maps.{if_then_else_, is-some-and, first}
 use Rattle.model.specs.Machine.{Machine, request}
 use Rattle.model.specs.Sync.{is-graph, assigns-ids, creates-under-key, looks-up, head, read-for-edit}
 use Rattle.state.specs.Layout.{padded, field}
-<<<<<<< HEAD
-use Rattle.state.specs.Contract.{Keeps, HasState, Reads}
-use Rattle.waiting.specs.Queues.{queue, queue-in, nth}
-use Rattle.waiting.specs.Entries.{EntryAt, SomeEntryAt, EntryIs, FindsEntry}
-use Rattle.waiting.proofs.Bridge.{queue-is}
-=======
 use Rattle.state.specs.Contract.{HasState, Reads}
 use Rattle.waiting.specs.Queues.{queue, nth}
 use Rattle.waiting.specs.Entries.{SomeEntryAt, EntryIs, FindsEntry}
-use Rattle.waiting.proofs.Cuts.{queue-is}
->>>>>>> 99702ad1d0eba239591e7ba85f395ad1439e4dfb
+use Rattle.waiting.proofs.Bridge.{queue-is}
 use Rattle.machine.specs.declared.Progress.{Progress}
 use Rattle.machine.specs.Contract.{Does}
 use Rattle.machine.proofs.Runs as runs
