@@ -28,7 +28,7 @@ use Rattle.state.specs.Values.{name-of}
 use Rattle.state.specs.Contract.{Keeps, Reads}
 use Rattle.state.proofs.Padded.{text-name-only}
 use Rattle.waiting.specs.Queues.{queue, queue-in, nth}
-use Rattle.waiting.proofs.Cuts.{queue-is}
+use Rattle.waiting.proofs.Bridge.{queue-is}
 use Rattle.waiting.specs.Entries.{SomeEntryAt, EntryIs, FindsEntry}
 use Rattle.waiting.specs.Reading.{nth-id, ReadsId, ids-number}
 use Rattle.machine.specs.declared.Progress.{Progress}

@@ -28,7 +28,7 @@ use Rattle.state.specs.Values.{name-of, name-in}
 use Rattle.state.specs.Contract.{Keeps, HasState, Reads, Edits, Tries}
 use Rattle.waiting.specs.Queues.{queue, put-queue, all-entries, nth, without, change-last, may-absorb}
 use Rattle.waiting.specs.Entries.{EditBytes, FoldBytes}
-use Rattle.waiting.proofs.Cuts.{queue-is, entries-is}
+use Rattle.waiting.proofs.Bridge.{queue-is, entries-is}
 use Rattle.waiting.proofs.Lists.{nth-back}
 use Rattle.machine.specs.declared.Progress.{Progress}
 use Rattle.machine.specs.Contract.{Ran, Does, Changes, Pushes}
