@@ -1,0 +1,24 @@
+use denote.Ref.{now}
+use Rattle.wellformed.proofs.FieldLaws.{wide-by}
+use Rattle.format.proofs.FormatLaws.{list-law}
+use Rattle.model.proofs.FormatsLaws.{shortText-law}
+use native.Mathlib.Omega.{arith}
+use borrow.Author.Needs.{needs}
+use Rattle.wellformed.proofs.absorbed.Statement.{statement}
+use Rattle.wellformed.proofs.absorbed.Tie as tie
+use Rattle.wellformed.proofs.absorbed.Reads as reads
+use Rattle.wellformed.proofs.absorbed.Lts as lts
+use Rattle.wellformed.proofs.edit_ids.Reads as edit-ids-reads
+use Rattle.wellformed.proofs.filled.Reads as filled-reads
+
+edit-ids-requires : tie.Need-edit-ids-requires
+edit-ids-requires c κs = search needs
+
+filled-requires : tie.Need-filled-requires
+filled-requires c κs = search needs
+
+returns : tie.Need-returns
+returns c = wide-by (list-law shortText-law 8) 265 (search needs) (now (c .before .before .before .args .s)) (c .before .before .before .args .place) (c .before .edit-ids .ensures) (c .filled .ensures)
+
+pub absorbed-spec : {M : Type 1} → statement M
+absorbed-spec = tie.close (tie.spec edit-ids-requires filled-requires returns)

@@ -1,0 +1,23 @@
+use denote.Ref.{now}
+use Rattle.wellformed.proofs.FieldLaws.{wide-by}
+use Rattle.model.proofs.FormatsLaws.{conflictsF-law}
+use native.Mathlib.Omega.{arith}
+use borrow.Author.Needs.{needs}
+use Rattle.wellformed.proofs.conflicts.Statement.{statement}
+use Rattle.wellformed.proofs.conflicts.Tie as tie
+use Rattle.wellformed.proofs.conflicts.Reads as reads
+use Rattle.wellformed.proofs.conflicts.Lts as lts
+use Rattle.effects.proofs.skip_conflicts.Reads as skip-conflicts-reads
+use Rattle.wellformed.proofs.filled.Reads as filled-reads
+
+skip-conflicts-requires : tie.Need-skip-conflicts-requires
+skip-conflicts-requires c κs = search needs
+
+filled-requires : tie.Need-filled-requires
+filled-requires c κs = search needs
+
+returns : tie.Need-returns
+returns c = wide-by conflictsF-law 3072 (search needs) (now (c .before .before .before .args .s)) (c .before .before .before .args .place) (c .before .skip-conflicts .ensures) (c .filled .ensures)
+
+pub conflicts-spec : {M : Type 1} → statement M
+conflicts-spec = tie.close (tie.spec skip-conflicts-requires filled-requires returns)

@@ -1,0 +1,23 @@
+use denote.Ref.{now}
+use Rattle.wellformed.proofs.FieldLaws.{wide-by}
+use Rattle.model.proofs.FormatsLaws.{operationF-law}
+use native.Mathlib.Omega.{arith}
+use borrow.Author.Needs.{needs}
+use Rattle.wellformed.proofs.operation.Statement.{statement}
+use Rattle.wellformed.proofs.operation.Tie as tie
+use Rattle.wellformed.proofs.operation.Reads as reads
+use Rattle.wellformed.proofs.operation.Lts as lts
+use Rattle.frame.proofs.Cursor.operation.Reads as operation-reads
+use Rattle.wellformed.proofs.filled.Reads as filled-reads
+
+operation-requires : tie.Need-operation-requires
+operation-requires c κs = search needs
+
+filled-requires : tie.Need-filled-requires
+filled-requires c κs = search needs
+
+returns : tie.Need-returns
+returns c = wide-by operationF-law 1469 (search needs) (now (c .before .before .before .before .args .s)) (c .before .before .before .before .args .place) (c .before .before .operation .ensures .place) (c .filled .ensures)
+
+pub operation-spec : {M : Type 1} → statement M
+operation-spec = tie.close (tie.spec operation-requires filled-requires returns)

@@ -1,0 +1,5 @@
+pub mod Across
+pub mod Fields
+pub mod Entries
+pub mod Tests
+pub mod IsState
