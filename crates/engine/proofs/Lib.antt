@@ -1,0 +1,2 @@
+-- From what the functions promise to the model's `entry`.
+pub mod Laws

@@ -1,0 +1,2 @@
+-- What a call is lent and what it leaves, as the code has them.
+pub mod Answers
