@@ -6,7 +6,7 @@ use mathlib.Core.List.{List, [], _∷_, _++_, append-nil}
 use mathlib.Core.Bool.{Bool, true, false, _&&_}
 use lib.ListN.{length, take, drop, drop-of-length-le, length-drop}
 use lib.Seq.{length-take-le}
-use lib.Dec.{eqb, leb}
+use lib.Dec.{T, eqb, leb, eqb→eq, leb→le}
 use borrow.Author.Tests.{eq-eqb, ne-eqb}
 use Rattle.spans.specs.Bytes.{zeros}
 use Rattle.spans.proofs.Laws.{tail-mid, tail-put}
@@ -15,6 +15,7 @@ use Rattle.model.specs.Sizes.{state-length}
 use Rattle.model.specs.Entry.{Lent, lengths-right, leaves}
 use Rattle.model.specs.Entry as model
 use Rattle.model.proofs.Sizes.{document01-length}
+use Rattle.model.proofs.Tables.{and-left, and-right}
 use Rattle.machine.specs.declared.Progress.{Progress}
 use Rattle.engine.specs.declared.Answer.{Answer}
 use Rattle.engine.specs.Answers.{lent, answer, Ends}
@@ -33,6 +34,25 @@ module _ (s w o : List ℕ) where
   pub by-output : length s ≡ 58543 → length w ≡ 58543 → leb 32768 (length o) ≡ lengths-right document01 (lent s w o)
   unfolding lengths-right max-effects
   by-output e h = rw (document01-length, eq-eqb (length s) 58543 e, eq-eqb (length w) 58543 h)
+
+  abbrev same-state : Bool
+  same-state = eqb (length s) (state-length document01)
+
+  abbrev same-work : Bool
+  same-work = eqb (length w) (state-length document01)
+
+  abbrev enough : Bool
+  enough = leb max-effects (length o)
+
+  pub right-work : true ≡ lengths-right document01 (lent s w o) → length w ≡ 58543
+  unfolding lengths-right
+  right-work e =
+      eqb→eq (length w) (state-length document01) (and-left same-work enough (and-right same-state (same-work && enough) (subst T e tt)))
+      ∙ document01-length
+
+  pub right-out : true ≡ lengths-right document01 (lent s w o) → 32768 ≤ length o
+  unfolding lengths-right max-effects
+  right-out e = leb→le 32768 (length o) (and-right same-work enough (and-right same-state (same-work && enough) (subst T e tt)))
 
 -- ---- the endings
 

@@ -29,3 +29,11 @@ pub record Ends (p : Progress) (s w o : List ℕ) (r : Answer) (s′ w′ o′ :
 -- a step on the state that the buffer holds
 pub record Steps (i : Input) (s w o : List ℕ) (r : Answer) (s′ w′ o′ : List ℕ) : Type 0 where
   pub is : (state : SyncState) → Keeps state s → answer r s′ w′ o′ ≡ answered document01 (lent s w o) (step document01 state i)
+
+-- a step that has done nothing yet
+abbrev pub fresh : Progress
+fresh = record { code = 0; at = 0 }
+
+-- the part of the output that is lent for the effects
+abbrev pub room : List ℕ → List ℕ
+room o = take 32768 o

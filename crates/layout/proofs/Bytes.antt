@@ -200,7 +200,7 @@ module _ (limits : Limits) where
       ap (λ (l : List ℕ). 1 ∷ l) (fields-are p ∙ sym (append-nil (passBytes limits .enc p)))
       ∙ ap (λ (n : ℕ). 1 ∷ (passBytes limits .enc p ++ zeros n)) (sym k)
 
--- ---- the state
+  -- ---- the state
 
   abbrev after-pass : SyncState → Table
   after-pass s =
