@@ -124,7 +124,7 @@ noted-none w b i n first K l N e z = record {
       subst (λ (x : List Text). Listed x n b) (sym m) (N .is s h);
 }
 
-listed-more : (names : List Text) (r : Text) (n : ℕ) (q b b′ : List ℕ) → resourceId .Ok r → n < 24 → Listed names n b → q ≡ name-slot r → b′ ≡ take (n * 33) b ++ (q ++ drop (n * 33 + length q) b) → Listed (names ++ (r ∷ [])) (n + 1) b′
+pub listed-more : (names : List Text) (r : Text) (n : ℕ) (q b b′ : List ℕ) → resourceId .Ok r → n < 24 → Listed names n b → q ≡ name-slot r → b′ ≡ take (n * 33) b ++ (q ++ drop (n * 33 + length q) b) → Listed (names ++ (r ∷ [])) (n + 1) b′
 unfolding map
 listed-more names r n q b b′ ok l L e d =
     let c : n ≡ length names = L .many in
