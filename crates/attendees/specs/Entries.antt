@@ -19,16 +19,20 @@ use Rattle.comparison.specs.Bytes.{sameFolded, verdictOf, isOurs, isConflict, i
 use Rattle.comparison.specs.declared.Verdict.{Verdict}
 use Rattle.attendees.specs.declared.Judged.{Judged}
 
+-- a list's count of entries
 unfoldable pub entryCount : List ℕ → ℕ
 entryCount s = valueAt (below (suc max-attendees)) 0 s start
 
+-- the place of the i-th entry
 unfoldable pub entryAt : List ℕ → ℕ → Cursor
 entryAt s zero = skips (below (suc max-attendees)) s start
 entryAt s (suc i) = skips attendeeF s (entryAt s i)
 
+-- its bytes, none past the last
 unfoldable pub entryBytes : List ℕ → ℕ → List ℕ
 entryBytes s i = cond (leb (entryCount s) i) [] (span s (entryAt s i .at) (skips attendeeF s (entryAt s i) .at))
 
+-- an entry's address
 unfoldable pub addressOf : List ℕ → List ℕ
 addressOf entry = valueAt shortText [] entry start
 
@@ -41,18 +45,22 @@ unfoldable pub tallyOf : List ℕ → List ℕ → ℕ → ℕ
 tallyOf s a zero = 0
 tallyOf s a (suc n) = tallyOf s a n + oneIf (sameFolded (addressOf (entryBytes s n)) a)
 
+-- how many entries before the i-th have its folded address
 unfoldable pub occurrenceOf : List ℕ → ℕ → ℕ
 occurrenceOf s i = tallyOf s (addressOf (entryBytes s i)) i
 
+-- among n entries from the i-th on, the one that `left` others with the folded address come before
 unfoldable pub findFrom : List ℕ → List ℕ → (left i n : ℕ) → List ℕ
 findFrom s wanted left i zero = []
 findFrom s wanted left i (suc n) =
     cond (sameFolded (addressOf (entryBytes s i)) wanted && eqb left 0) (entryBytes s i)
     (findFrom s wanted (left - oneIf (sameFolded (addressOf (entryBytes s i)) wanted)) (i + 1) n)
 
+-- the entry with a folded address and an occurrence
 unfoldable pub findBytes : List ℕ → List ℕ → ℕ → List ℕ
 findBytes s wanted n = findFrom s wanted n 0 (entryCount s)
 
+-- fn display_address: theirs' spelling where it has one, else ours', else base's
 unfoldable pub shownAddress : List ℕ → List ℕ → List ℕ → List ℕ
 shownAddress b o t = cond (ltb 0 (length t)) (addressOf t) (cond (ltb 0 (length o)) (addressOf o) (addressOf b))
 
@@ -67,6 +75,7 @@ pub record Shown (base ours theirs r : List ℕ) : Type 0 where
   pub means : (b o t : Option Attendee) → option attendeeF .Ok b → option attendeeF .Ok o → option attendeeF .Ok t
       → base ≡ entryEnc b → ours ≡ entryEnc o → theirs ≡ entryEnc t → r ≡ display-address b o t
 
+-- an entry's bytes before the reply, the reply, and the kind
 abbrev pub headOf : List ℕ → List ℕ
 headOf e = take (length e - 2) e
 
@@ -76,10 +85,11 @@ replyOf e = cond (ltb (length e) 2) 0 (getD e (length e - 2) 0)
 unfoldable pub kindOf : List ℕ → ℕ
 kindOf e = cond (ltb (length e) 2) 0 (getD e (length e - 1) 0)
 
+-- whether two entries are equal but for the reply
 unfoldable pub sameRest : List ℕ → List ℕ → Bool
 sameRest a b = same-text (headOf a) (headOf b) && eqb (kindOf a) (kindOf b)
 
--- a unit's judgement
+-- an entry judged whole, and the writer's own entry, as own_entry does
 
 abbrev pub judgeWhole : (b o t : List ℕ) → Bool → Judged
 judgeWhole b o t owned = record {

@@ -180,7 +180,7 @@ numbered p purpose n R ne E T = attempted (reserve purpose) p
     (λ m l h. rw (ne-eqb (m .state .next-request) (2 ^ 64 - 1) (λ z. ne (R .is (m .state) h ∙ z)), l, ← R .is (m .state) h))
 
 -- a number, and then the request's effect
-request-is : (purpose : Purpose) (what : Seam.Request) (m : Machine) → (reserve purpose m >>= push (Effect.Request (m .state .next-request) what)) ≡ request purpose what m
+pub request-is : (purpose : Purpose) (what : Seam.Request) (m : Machine) → (reserve purpose m >>= push (Effect.Request (m .state .next-request) what)) ≡ request purpose what m
 unfolding reserve request if_then_else_ _>>=_ set-next-request push
 request-is purpose what m = go (eqb (m .state .next-request) (2 ^ 64 - 1))
   where

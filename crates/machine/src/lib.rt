@@ -111,7 +111,7 @@ pub fn tell_remapped(out: &mut [u8], p: Progress, from: Name, to: Name) -> Progr
 // Requests
 
 // `request` up to its last line: a number, and its place among those in flight.
-fn reserve(work: &mut [u8], p: Progress, kind: Kind, name: Name) -> Progress
+pub fn reserve(work: &mut [u8], p: Progress, kind: Kind, name: Name) -> Progress
     requires { ⌜ HasState (now work) ⌝ }
     requires { ⌜ Named (name .bytes) ⌝ }
     ensures { λ r. ⌜ Changes (reserve (purpose-of kind (name-of (name .bytes)))) (now (work .entry)) p r (now (work .exit)) ⌝ }

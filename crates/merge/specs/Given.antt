@@ -13,9 +13,9 @@ pub record Begins {A : Type 0} (f : Format A) (s : List ℕ) (v : A) : Type 0 wh
   pub rest : List ℕ
   pub bytes : s ≡ f .enc v ++ rest
 
--- s holds base, u ours, x theirs, and y the role of who wrote ours
-pub record Given (s u x y : List ℕ) (b o : NormalizedEvent) (t : ProviderEvent) (r : Role) : Type 0 where
-  pub base : Begins fieldsF s b
-  pub ours : Begins fieldsF u o
-  pub theirs : Begins eventF x t
-  pub role : Begins roleF y r
+-- the bytes sb, so, st and sr hold base, ours, theirs and the role of who wrote ours
+pub record Given (sb so st sr : List ℕ) (b o : NormalizedEvent) (t : ProviderEvent) (r : Role) : Type 0 where
+  pub base : Begins fieldsF sb b
+  pub ours : Begins fieldsF so o
+  pub theirs : Begins eventF st t
+  pub role : Begins roleF sr r

@@ -161,8 +161,8 @@ cut r (e ∷ m) a t =
     orders.ordering-cases (λ o. by-name r (e .0) ≡ o → Cut r (e ∷ m)) (by-name r (e .0))
     (λ l h. cut-lt r e m h t)
     (λ l h.
-        let k : r ≡ e .0 = orders.by-name-same r (e .0) h in
-        subst (λ (x : ResourceId). Cut x (e ∷ m)) (sym k) (cut-eq (e .0) (e .1) m t (a .0 .each)))
+    let k : r ≡ e .0 = orders.by-name-same r (e .0) h in
+    subst (λ (x : ResourceId). Cut x (e ∷ m)) (sym k) (cut-eq (e .0) (e .1) m t (a .0 .each)))
     (λ l h. cut-gt r e m h (cut r m (a .1) (orders.rising-tail by-name orders.name-order (e .0) m t))) refl
 
 -- ---- counting by keys

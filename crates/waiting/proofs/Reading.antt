@@ -6,7 +6,7 @@ use mathlib.Core.Path.{_≡_, refl, sym, ap, ap₂, _∙_, subst}
 use mathlib.Core.List.{List, [], _∷_, _++_, append-assoc}
 use mathlib.Core.Option.{Option, none, some, Option·some-injective, Option·none-ne-some}
 use mathlib.Core.Bool.{Bool, true, false, _&&_}
-use lib.ListN.{length, take, drop, getD, length-append, length-drop, length-replicate}
+use lib.ListN.{length, take, drop, getD, length-append, length-drop, take-append-drop}
 use lib.Seq.{getD-take, getD-drop, take-at, drop-at, take-all, drop-drop, take-take}
 use lib.IntN.{ℤ, pos, negsuc}
 use lib.Signed.{leZ}
@@ -32,7 +32,8 @@ use Rattle.model.specs.Sync.{ids-of, due}
 use Rattle.state.specs.Layout.{padded, field, name-slot, pending-slot}
 use Rattle.state.specs.Fits.{PendingFits}
 use Rattle.state.specs.Contract.{Keeps, HasState, Reads}
-use Rattle.state.specs.Values.{bits-in}
+use Rattle.state.specs.Values.{number-in, bits-in}
+use Rattle.state.specs.declared.Numbered.{Numbered}
 use Rattle.state.proofs.Orders.{from-digits}
 use Rattle.state.proofs.Widths.{length-digits}
 use Rattle.waiting.specs.Queues.{below, queue, nth}
@@ -43,6 +44,7 @@ use Rattle.waiting.proofs.Cuts.{Slot, Flat}
 use Rattle.waiting.proofs.Lists as lists
 use Rattle.waiting.proofs.Fields as fields
 use Rattle.waiting.proofs.Splices as splices
+use Rattle.waiting.proofs.Writes.{drop-zeros}
 use Rattle.waiting.proofs.Texts.{Ids}
 use Rattle.waiting.proofs.Laws as laws
 use Rattle.waiting.proofs.Folds as folds
@@ -155,16 +157,16 @@ pub number-none : (r : ResourceId) (w : List ℕ) (v j : ℕ) → resourceId .Ok
 unfolding ids-number
 number-none r w v j k R l = entry-cases r w 5675 255 v j 0 ids-number R (λ e. refl)
     (λ s h p g ok e.
-        let c : getD (Slot r p) 5675 0 ≡ length (p .absorbed) = count-of r p k ok in
-        let f : length (p .absorbed) ≤ 8 = few-ids r p ok in
-        absurd (omega arith))
+    let c : getD (Slot r p) 5675 0 ≡ length (p .absorbed) = count-of r p k ok in
+    let f : length (p .absorbed) ≤ 8 = few-ids r p ok in
+    absurd (omega arith))
 
 pub number-some : (r : ResourceId) (w : List ℕ) (v j : ℕ) → resourceId .Ok r → Reads (λ s. entry-byte r 5675 255 (nth j (queue r s))) w v → (v ≡ 255 → ⊥) → Reads (λ s. ids-number (nth j (queue r s))) w (1 + v)
 unfolding ids-number ids-of
 number-some r w v j k R l = entry-cases r w 5675 255 v j (1 + v) ids-number R (λ e. absurd (l e))
     (λ s h p g ok e.
-        let c : getD (Slot r p) 5675 0 ≡ length (p .absorbed) = count-of r p k ok in
-        omega arith)
+    let c : getD (Slot r p) 5675 0 ≡ length (p .absorbed) = count-of r p k ok in
+    omega arith)
 
 -- ---- the expiry
 
@@ -254,22 +256,27 @@ due-none r w j at R = record { is = λ s h. go (nth j (queue r s)) (R .is s h) }
     go none e = refl
     go (some p) e = on (p .edit .expires-at) e
 
-pub due-some : (r : ResourceId) (w : List ℕ) (j bits : ℕ) (at z : ℤ) → Reads (λ s. bits-in (expiry-of (nth j (queue r s)))) w (some bits) → z ≡ toZ w64 bits
-    → Reads (λ s. is-some-and (λ p. due at (p .edit)) (nth j (queue r s))) w (leZ z at)
+pub due-some : (r : ResourceId) (w : List ℕ) (j bits : ℕ) (at x y : ℤ) → Reads (λ s. bits-in (expiry-of (nth j (queue r s)))) w (some bits) → x ≡ toZ w64 bits → y ≡ at
+    → Reads (λ s. is-some-and (λ p. due at (p .edit)) (nth j (queue r s))) w (leZ (toZ w64 (ofZ w64 x)) y)
 unfolding expiry-of is-some-and due
-due-some r w j bits at z R q = record {
+due-some r w j bits at x y R q u = record {
   is = λ s h. go (nth j (queue r s)) (λ p g. lists.nth-all (PendingFits document01 r) j (queue r s) p (splices.cut-of r h .own) g .expires-at) (R .is s h);
 }
   where
-    on : (x : Option ℤ) → option stamp .Ok x → some bits ≡ bits-in x → leZ z at ≡ is-some-and (λ t. leZ t at) x
+    on : (o : Option ℤ) → option stamp .Ok o → some bits ≡ bits-in o → leZ (toZ w64 (ofZ w64 x)) y ≡ is-some-and (λ t. leZ t at) o
     on none ok e = absurd (Option·none-ne-some bits (sym e))
     on (some t) ok e =
-        let b : bits ≡ ofZ w64 t = Option·some-injective bits (ofZ w64 t) e in
-        ap (λ (u : ℤ). leZ u at) (q ∙ ap (toZ w64) b ∙ toZ-ofZ (time-fits t (time-ok (some t) t ok refl)))
+        let f = toZ-ofZ (time-fits t (time-ok (some t) t ok refl)) in
+        let b : x ≡ t = q ∙ ap (toZ w64) (Option·some-injective bits (ofZ w64 t) e) ∙ f in
+        ap₂ leZ (ap (λ (v : ℤ). toZ w64 (ofZ w64 v)) b ∙ f) u
 
-    go : (x : Option Pending) → ((p : Pending) → x ≡ some p → option stamp .Ok (p .edit .expires-at)) → some bits ≡ bits-in (expiry-of x) → leZ z at ≡ is-some-and (λ p. due at (p .edit)) x
+    go : (o : Option Pending) → ((p : Pending) → o ≡ some p → option stamp .Ok (p .edit .expires-at)) → some bits ≡ bits-in (expiry-of o) → leZ (toZ w64 (ofZ w64 x)) y ≡ is-some-and (λ p. due at (p .edit)) o
     go none f e = absurd (Option·none-ne-some bits (sym e))
     go (some p) f e = on (p .edit .expires-at) (f p refl) e
+
+-- a number that is told by its case
+pub told : (f : SyncState → Option ℕ) (w : List ℕ) (n m : Numbered) → Reads f w (number-in n) → n ≡ m → Reads f w (number-in m)
+told f w n m R e = subst (λ (x : Numbered). Reads f w (number-in x)) e R
 
 -- ---- one id
 
@@ -295,3 +302,137 @@ text-read w b at id T e =
     let g : getD w at 0 ≡ length id = ap (λ (i : ℕ). getD w i 0) (sym (add-zero at)) ∙ sym (getD-drop at w 0 0) ∙ ap (λ (x : List ℕ). getD x 0 0) (T .is) in
     let n : 1 + getD w at 0 ≡ suc (length id) = omega arith in
     e ∙ ap (padded 33) (ap₂ (λ (i : ℕ) (x : List ℕ). take i x) n (T .is) ∙ take-at (length id ∷ id) (T .tail) (suc (length id)) refl)
+
+field-text : (w : List ℕ) (at : ℕ) (id : Text) → shortText .Ok id → take 33 (drop at w) ≡ field 33 shortText id → TextAt w at id
+unfolding padded
+field-text w at id ok e = record {
+  tail = zeros (33 - length (shortText .enc id)) ++ drop 33 (drop at w);
+  is = sym (take-append-drop 33 (drop at w)) ∙ ap (λ (x : List ℕ). x ++ drop 33 (drop at w)) e ∙ append-assoc (shortText .enc id) (zeros (33 - length (shortText .enc id))) (drop 33 (drop at w));
+  ok = ok;
+}
+
+ids-split : (k : ℕ) (ids : List Text) (id : Text) → nth-id k ids ≡ some id → Ids ids ≡ Ids (take k ids) ++ (shortText .enc id ++ Ids (drop (suc k) ids))
+unfolding nth-id
+ids-split k [] id e = absurd (Option·none-ne-some id e)
+ids-split zero (x ∷ ids) id e = ap (λ (y : Text). shortText .enc y ++ Ids ids) (Option·some-injective x id e)
+ids-split (suc k) (x ∷ ids) id e = ap (λ (y : List ℕ). shortText .enc x ++ y) (ids-split k ids id e) ∙ sym (append-assoc (shortText .enc x) (Ids (take k ids)) (shortText .enc id ++ Ids (drop (suc k) ids)))
+
+nth-id-ok : (k : ℕ) (ids : List Text) (id : Text) → All (shortText .Ok) ids → nth-id k ids ≡ some id → shortText .Ok id
+unfolding nth-id
+nth-id-ok k [] id a e = absurd (Option·none-ne-some id e)
+nth-id-ok zero (x ∷ ids) id a e = subst (shortText .Ok) (Option·some-injective x id e) (a .0)
+nth-id-ok (suc k) (x ∷ ids) id a e = nth-id-ok k ids id (a .1) e
+
+nth-id-below : (k : ℕ) (ids : List Text) (id : Text) → nth-id k ids ≡ some id → k < length ids
+unfolding nth-id
+nth-id-below k [] id e = absurd (Option·none-ne-some id e)
+nth-id-below zero (x ∷ ids) id e = omega arith
+nth-id-below (suc k) (x ∷ ids) id e = let h : k < length ids = nth-id-below k ids id e in omega arith
+
+nth-id-some : (k : ℕ) (ids : List Text) → k < length ids → (id : Text) × (nth-id k ids ≡ some id)
+unfolding nth-id
+nth-id-some k [] h = absurd (not-suc-le-zero h)
+nth-id-some zero (x ∷ ids) h = (x, refl)
+nth-id-some (suc k) (x ∷ ids) h = nth-id-some k ids (le-of-suc-le-suc h)
+
+absorbed-text : (w : List ℕ) (p k : ℕ) (ids : List Text) (id : Text) → All (shortText .Ok) ids → IdsAt w p ids → nth-id k ids ≡ some id → TextAt w (texts-end k w (p + 5676)) id
+absorbed-text w p k ids id a J g =
+    let l : k < length ids = nth-id-below k ids id g in
+    let X : List ℕ = Ids (take k ids) in
+    let tail : List ℕ = zeros (265 - suc (length (Ids ids))) ++ drop 265 (drop (p + 5675) w) in
+    let d : drop (p + 5676) w ≡ X ++ ((shortText .enc id ++ Ids (drop (suc k) ids)) ++ tail) = J .rest ∙ ap (λ (y : List ℕ). y ++ tail) (ids-split k ids id g) ∙ append-assoc X (shortText .enc id ++ Ids (drop (suc k) ids)) tail in
+    let e : texts-end k w (p + 5676) ≡ p + 5676 + length (Ids (take k ids)) = J .end k (omega arith) in
+    record {
+      tail = Ids (drop (suc k) ids) ++ tail;
+      is = ap (λ (i : ℕ). drop i w) e ∙ sym (drop-drop (length X) (p + 5676) w) ∙ ap (drop (length X)) d ∙ drop-at X ((shortText .enc id ++ Ids (drop (suc k) ids)) ++ tail) (length X) refl ∙ append-assoc (shortText .enc id) (Ids (drop (suc k) ids)) tail;
+      ok = nth-id-ok k ids id a g;
+    }
+
+all-ids : (r : ResourceId) (p : Pending) → PendingFits document01 r p → All (shortText .Ok) (p .absorbed)
+unfolding document01 list
+all-ids r p ok = ok .absorbed .1
+
+-- the place of the k-th id: the entry's own at 33, the others in the list
+module _ (r : ResourceId) (w : List ℕ) (i j : ℕ) (m : resourceId .Ok r) (I : Reads (λ s. below r (s .edits)) w i) where
+  own-text : (s : SyncState) → Keeps s w → (p : Pending) → nth j (queue r s) ≡ some p → TextAt w (20002 + (1 + (i + j) * 5940) + 33) (p .edit .id)
+  own-text s h p g = let E = there-at r w i j m I s h p g in field-text w (20002 + (1 + (i + j) * 5940) + 33) (p .edit .id) (E .fits .id) (E .id)
+
+  more-text : (s : SyncState) → Keeps s w → (p : Pending) → nth j (queue r s) ≡ some p → (k : ℕ) (id : Text) → nth-id k (p .absorbed) ≡ some id → TextAt w (texts-end k w (20002 + (1 + (i + j) * 5940) + 5676)) id
+  more-text s h p g k id e =
+      let E = there-at r w i j m I s h p g in
+      absorbed-text w (20002 + (1 + (i + j) * 5940)) k (p .absorbed) id (all-ids r p (E .fits)) (folds.ids-at r j (20002 + (1 + (i + j) * 5940)) p E) e
+
+-- an entry that has ids
+some-entry : (r : ResourceId) (s : SyncState) (j n k : ℕ) → n ≡ ids-number (nth j (queue r s)) → k < n → (p : Pending) × (nth j (queue r s) ≡ some p) × (n ≡ suc (length (p .absorbed)))
+unfolding ids-number ids-of
+some-entry r s j n k e l = go (nth j (queue r s)) refl e
+  where
+    go : (x : Option Pending) → nth j (queue r s) ≡ x → n ≡ ids-number x → (p : Pending) × (nth j (queue r s) ≡ some p) × (n ≡ suc (length (p .absorbed)))
+    go none q f = absurd (let z : n ≡ 0 = f in omega arith)
+    go (some p) q f = (p, q, f)
+
+pub id-below : (r : ResourceId) (w : List ℕ) (n i j k : ℕ) → HasState w → Reads (λ s. ids-number (nth j (queue r s))) w n → Reads (λ s. below r (s .edits)) w i → k < n → i + j < 6
+unfolding document01
+id-below r w n i j k H N I l =
+    let s = H .state in
+    let h = H .keeps in
+    let g = some-entry r s j n k (N .is s h) l in
+    let a = splices.rows-count r h in
+    let b : length (Flat (s .edits)) ≤ 6 = h .fits .edits .small in
+    let c : j < length (queue r s) = nth-below j (queue r s) (g .0) (g .1) in
+    let d : i ≡ below r (s .edits) = I .is s h in
+    omega arith
+
+pub own-room : (r : ResourceId) (w : List ℕ) (n i j k : ℕ) → resourceId .Ok r → HasState w → Reads (λ s. ids-number (nth j (queue r s))) w n → Reads (λ s. below r (s .edits)) w i → k < n
+    → let at : ℕ = 20002 + (1 + (i + j) * 5940) + 33 in (at < length w) × (getD w at 0 ≤ 32) × (at + (1 + getD w at 0) ≤ length w)
+own-room r w n i j k m H N I l =
+    let g = some-entry r (H .state) j n k (N .is (H .state) (H .keeps)) l in
+    text-room w (20002 + (1 + (i + j) * 5940) + 33) (g .0 .edit .id) (own-text r w i j m I (H .state) (H .keeps) (g .0) (g .1))
+
+pub more-room : (r : ResourceId) (w : List ℕ) (n i j k at : ℕ) → resourceId .Ok r → HasState w → Reads (λ s. ids-number (nth j (queue r s))) w n → Reads (λ s. below r (s .edits)) w i → k < n → 0 < k
+    → at ≡ texts-end (k - 1) w (20002 + (1 + (i + j) * 5940) + 5676) → (at < length w) × (getD w at 0 ≤ 32) × (at + (1 + getD w at 0) ≤ length w)
+more-room r w n i j k at m H N I l o e =
+    let g = some-entry r (H .state) j n k (N .is (H .state) (H .keeps)) l in
+    let c : n ≡ suc (length (g .0 .absorbed)) = g .2 in
+    let x = nth-id-some (k - 1) (g .0 .absorbed) (omega arith) in
+    text-room w at (x .0) (subst (λ (a : ℕ). TextAt w a (x .0)) (sym e) (more-text r w i j m I (H .state) (H .keeps) (g .0) (g .1) (k - 1) (x .0) (x .1)))
+
+pub id-none : (r : ResourceId) (w b : List ℕ) (n j k : ℕ) → Reads (λ s. ids-number (nth j (queue r s))) w n → n ≤ k → ReadsId r j k w b
+unfolding ids-number
+id-none r w b n j k N l = record {
+  is = λ s h p g id e.
+      let c : n ≡ length (ids-of p) = N .is s h ∙ ap ids-number g in
+      let d : k < length (ids-of p) = nth-id-below k (ids-of p) id e in
+      absurd (omega arith);
+}
+
+pub id-own : (r : ResourceId) (w b : List ℕ) (i j k : ℕ) → resourceId .Ok r → Reads (λ s. below r (s .edits)) w i → k ≡ 0
+    → b ≡ padded 33 (take (1 + getD w (20002 + (1 + (i + j) * 5940) + 33) 0) (drop (20002 + (1 + (i + j) * 5940) + 33) w)) → ReadsId r j k w b
+unfolding nth-id ids-of
+id-own r w b i j k m I l q = record {
+  is = λ s h p g id e.
+      let T = own-text r w i j m I s h p g in
+      let f : p .edit .id ≡ id = Option·some-injective (p .edit .id) id (ap (λ (x : ℕ). nth-id x (p .edit .id ∷ p .absorbed)) (sym l) ∙ e) in
+      (text-read w b (20002 + (1 + (i + j) * 5940) + 33) (p .edit .id) T q ∙ ap name-slot f, subst (shortText .Ok) f (T .ok));
+}
+
+pub id-more : (r : ResourceId) (w b : List ℕ) (i j k at : ℕ) → resourceId .Ok r → Reads (λ s. below r (s .edits)) w i → 0 < k
+    → at ≡ texts-end (k - 1) w (20002 + (1 + (i + j) * 5940) + 5676) → b ≡ padded 33 (take (1 + getD w at 0) (drop at w)) → ReadsId r j k w b
+unfolding nth-id ids-of
+id-more r w b i j k at m I l a q = record {
+  is = λ s h p g id e.
+      let c : k ≡ suc (k - 1) = omega arith in
+      let f : nth-id (k - 1) (p .absorbed) ≡ some id = ap (λ (x : ℕ). nth-id x (p .edit .id ∷ p .absorbed)) (sym c) ∙ e in
+      let T : TextAt w at id = subst (λ (x : ℕ). TextAt w x id) (sym a) (more-text r w i j m I s h p g (k - 1) id f) in
+      (text-read w b at id T q, T .ok);
+}
+
+-- a text by value
+pub text-copied : (src b z : List ℕ) (at n : ℕ) → n ≡ getD src at 0 → z ≡ zeros 33 → getD src at 0 ≤ 32 → at + (1 + getD src at 0) ≤ length src
+    → b ≡ take (at + (1 + n) - at) (drop at src) ++ drop (length (take (at + (1 + n) - at) (drop at src))) z → b ≡ padded 33 (take (1 + getD src at 0) (drop at src))
+unfolding padded
+text-copied src b z at n e y h l q =
+    let k : at + (1 + n) - at ≡ 1 + getD src at 0 = omega arith in
+    let x : List ℕ = take (1 + getD src at 0) (drop at src) in
+    let m : length (take (1 + getD src at 0) (drop at src)) ≡ 1 + getD src at 0 = tables.part-length src at (1 + getD src at 0) l in
+    q ∙ ap (λ (i : ℕ). take i (drop at src) ++ drop (length (take i (drop at src))) z) k ∙ ap (λ (v : List ℕ). x ++ v) (ap (drop (length x)) y ∙ drop-zeros (length x) 33 (omega arith))

@@ -1,6 +1,7 @@
 // The waiting edits: one table, a slot for each entry, by resource and then in the queue's order.
 use names::Name;
 use spans::Order;
+use state::Numbered;
 use tables::Place;
 ghost use mathlib.Core.Path.{_≡_};
 ghost use mathlib.Core.Bool.{true, false};
@@ -24,10 +25,14 @@ ghost use lib.ListN.{set};
 ghost use lib.Dec.{leb};
 ghost use Rattle.model.specs.Edits.{Edit, Operation};
 ghost use Rattle.model.specs.Sync.{as-collided, without-plan, change-front, new-pending, absorb};
-ghost use Rattle.waiting.specs.Queues.{below, queue, put-queue, all-entries, without, planned, change-last, may-absorb, renamed, joined, moved};
+ghost use Rattle.waiting.specs.Queues.{below, nth, queue, put-queue, all-entries, without, planned, change-last, may-absorb, renamed, joined, moved};
 ghost use Rattle.waiting.specs.Slots.{HasSlots, ReadsSlots, EditsSlots, Rewrites, Opens, counts, tallied, new-fields, more-fields};
 ghost use Rattle.waiting.specs.Entries.{FindsEntry, ListsResources, PlanBytes, EditBytes, IsEdit, FoldBytes};
 ghost use Rattle.waiting.specs.Texts.{text-end, texts-end};
+ghost use Rattle.waiting.specs.Reading.{entry-byte, operation-case-of, by-attendee, expiry-of, ids-number, ReadsId};
+ghost use Rattle.model.specs.Maps.{is-some-and};
+ghost use Rattle.model.specs.Sync.{due};
+ghost use Rattle.state.specs.Values.{number-in, bits-in};
 
 const EDITS: usize = 20002;
 
@@ -398,4 +403,128 @@ pub fn move_entry(work: &mut [u8], from: Name, j: usize, to: Name)
     copy_slot(&mut slot, work, EDITS + (1 + i * EDITS_SLOT));
     remove_entry(work, from, j);
     join_entry(work, to, &slot);
+}
+
+// ---- reading an entry: each reader says what no entry gives where the queue has not so many
+
+// The byte at `o` of an entry's slot.
+fn entry_byte(work: &[u8], name: Name, j: usize, o: usize, missing: u8) -> u8
+    requires { ⌜ HasState (now work) ⌝ }
+    requires { ⌜ (Named (name .bytes)) × (o < 5940) ⌝ }
+    ensures { λ r. ⌜ Reads (λ s. entry-byte (name-of (name .bytes)) o missing (nth j (queue (name-of (name .bytes)) s))) (now (work .entry)) r ⌝ }
+{
+    let n = waiting_count(work, name);
+    if n <= j {
+        return missing;
+    }
+    let i = entries_before(work, name) + j;
+    let p = EDITS + (1 + i * EDITS_SLOT);
+    work[p + o]
+}
+
+// The case of its operation: 0 creates, 1 updates, 2 deletes; 3 if there is no entry.
+pub fn operation_case(work: &[u8], name: Name, j: usize) -> u8
+    requires { ⌜ HasState (now work) ⌝ }
+    requires { ⌜ Named (name .bytes) ⌝ }
+    ensures { λ r. ⌜ Reads (λ s. operation-case-of (nth j (queue (name-of (name .bytes)) s))) (now (work .entry)) r ⌝ }
+{
+    entry_byte(work, name, j, 66, 3)
+}
+
+// Whether it is an attendee's.
+pub fn is_attendee(work: &[u8], name: Name, j: usize) -> bool
+    requires { ⌜ HasState (now work) ⌝ }
+    requires { ⌜ Named (name .bytes) ⌝ }
+    ensures { λ r. ⌜ Reads (λ s. is-some-and (λ p. by-attendee (p .edit .role)) (nth j (queue (name-of (name .bytes)) s))) (now (work .entry)) r ⌝ }
+{
+    let role = entry_byte(work, name, j, 1535, 0);
+    role == 1
+}
+
+// Whether it has collided.
+pub fn is_collided(work: &[u8], name: Name, j: usize) -> bool
+    requires { ⌜ HasState (now work) ⌝ }
+    requires { ⌜ Named (name .bytes) ⌝ }
+    ensures { λ r. ⌜ Reads (λ s. is-some-and (λ p. p .collided) (nth j (queue (name-of (name .bytes)) s))) (now (work .entry)) r ⌝ }
+{
+    let collided = entry_byte(work, name, j, 5674, 0);
+    collided == 1
+}
+
+// The two's complement bits of its expiry.
+pub fn expiry(work: &[u8], name: Name, j: usize) -> Numbered
+    requires { ⌜ HasState (now work) ⌝ }
+    requires { ⌜ Named (name .bytes) ⌝ }
+    ensures { λ r. ⌜ Reads (λ s. bits-in (expiry-of (nth j (queue (name-of (name .bytes)) s)))) (now (work .entry)) (number-in r) ⌝ }
+{
+    let set = entry_byte(work, name, j, 1569, 0);
+    if set == 0 {
+        return Numbered::Nothing;
+    }
+    let i = entries_before(work, name) + j;
+    let p = EDITS + (1 + i * EDITS_SLOT);
+    let bits = numbers::get_be(work, p + 1570);
+    Numbered::Is(bits)
+}
+
+// Whether it is due at a time.
+pub fn is_due(work: &[u8], name: Name, j: usize, at: i64) -> bool
+    requires { ⌜ HasState (now work) ⌝ }
+    requires { ⌜ Named (name .bytes) ⌝ }
+    ensures { λ r. ⌜ Reads (λ s. is-some-and (λ p. due at (p .edit)) (nth j (queue (name-of (name .bytes)) s))) (now (work .entry)) r ⌝ }
+{
+    let e = expiry(work, name, j);
+    match e {
+        Numbered::Nothing => {
+            return false;
+        }
+        Numbered::Is(bits) => {
+            let expires = numbers::signed(bits);
+            return expires <= at;
+        }
+    }
+}
+
+// How many ids it has: its own and those that it has absorbed.
+pub fn ids_count(work: &[u8], name: Name, j: usize) -> usize
+    requires { ⌜ HasState (now work) ⌝ }
+    requires { ⌜ Named (name .bytes) ⌝ }
+    ensures { λ r. ⌜ Reads (λ s. ids-number (nth j (queue (name-of (name .bytes)) s))) (now (work .entry)) r ⌝ }
+{
+    let absorbed = entry_byte(work, name, j, 5675, 255);
+    if absorbed == 255 {
+        return 0;
+    }
+    1 + absorbed as usize
+}
+
+// The text at `at` by value.
+fn text_name(src: &[u8], at: usize) -> Name
+    requires { ⌜ (at < length (now src)) × (getD (now src) at 0 ≤ 32) × (at + (1 + getD (now src) at 0) ≤ length (now src)) ⌝ }
+    ensures { λ r. ⌜ r .bytes ≡ padded 33 (take (1 + getD (now (src .entry)) at 0) (drop at (now (src .entry)))) ⌝ }
+{
+    let n = src[at] as usize;
+    let end = at + (1 + n);
+    let mut bytes = [0u8; 33];
+    spans::copy_into(&mut bytes, &src[at..end]);
+    Name { bytes }
+}
+
+// The k-th of its ids, counted from 0: first its own.
+pub fn entry_id(work: &[u8], name: Name, j: usize, k: usize) -> Name
+    requires { ⌜ HasState (now work) ⌝ }
+    requires { ⌜ Named (name .bytes) ⌝ }
+    ensures { λ r. ⌜ ReadsId (name-of (name .bytes)) j k (now (work .entry)) (r .bytes) ⌝ }
+{
+    let n = ids_count(work, name, j);
+    if n <= k {
+        return Name { bytes: [0u8; 33] };
+    }
+    let i = entries_before(work, name) + j;
+    let p = EDITS + (1 + i * EDITS_SLOT);
+    if k == 0 {
+        return text_name(work, p + 33);
+    }
+    let at = texts_end(work, p + 5676, k - 1);
+    text_name(work, at)
 }

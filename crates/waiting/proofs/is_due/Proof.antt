@@ -1,0 +1,41 @@
+use lib.ListN.{length, take, drop, getD, set}
+use Prim.Native.Nat.{ℕ, _+_, _-_, _*_, _≤_, _<_}
+use mathlib.Core.Path.{_≡_, refl, sym, ap, _∙_, subst}
+use Rattle.tables.proofs.Laws as tables
+use Rattle.state.proofs.Ops as ops
+use Rattle.waiting.proofs.Splices as splices
+use Rattle.waiting.proofs.Laws as laws
+use Rattle.waiting.proofs.Writes as writes
+use mir.Facts.{toZ-ofZ}
+use Rattle.state.specs.Values.{name-of}
+use Rattle.waiting.proofs.Reading as reading
+use native.Mathlib.Omega.{arith}
+use borrow.Author.Needs.{needs}
+use Rattle.waiting.proofs.is_due.Statement.{statement}
+use Rattle.waiting.proofs.is_due.Tie as tie
+use Rattle.waiting.proofs.is_due.Reads as reads
+use Rattle.waiting.proofs.is_due.Lts as lts
+use Rattle.numbers.proofs.signed.Reads as signed-reads
+use Rattle.waiting.proofs.expiry.Reads as expiry-reads
+
+expiry-requires : tie.Need-expiry-requires
+expiry-requires c κs = search needs
+
+enum-told : tie.Need-enum-told
+enum-told c = search needs
+
+returns : tie.Need-returns
+returns c = reading.due-none (name-of (c .before .before .before .before .args .name .bytes)) (c .before .before .before .before .args .work .now) (c .before .before .before .before .args .j) (c .before .before .before .before .args .at) (reading.told _ (c .before .before .before .before .args .work .now) (c .before .before .expiry .result) _ (c .before .before .expiry .ensures) (c .enum-told .given .1))
+
+enum-known-e : tie.Need-enum-known-e
+enum-known-e c = search needs
+
+signed-requires : tie.Need-signed-requires
+signed-requires c κs = search needs
+
+returns-2 : tie.Need-returns-2
+returns-2 c = reading.due-some (name-of (c .before .before .before .before .before .before .args .name .bytes)) (c .before .before .before .before .before .before .args .work .now) (c .before .before .before .before .before .before .args .j) (c .before .before .e .given .0 .0) (c .before .before .before .before .before .before .args .at) _ _ (reading.told _ (c .before .before .before .before .before .before .args .work .now) (c .before .before .before .before .expiry .result) _ (c .before .before .before .before .expiry .ensures) (c .before .before .e .given .1)) (c .signed .ensures) (toZ-ofZ (c .before .before .before .before .before .before .fits .at))
+
+pub is-due-spec : {M : Type 1} → statement M
+is-due-spec =
+    tie.close (tie.spec expiry-requires enum-told returns enum-known-e signed-requires returns-2)
