@@ -1,9 +1,9 @@
 -- The requests in flight: each law's premises are what the callees ensure. Assumes nothing.
 use Prim.Native.Nat.{ℕ, zero, suc, _+_, _-_, _*_, _^_, _≤_, _<_}
 use native.Mathlib.Omega.{arith}
-use mathlib.Core.Path.{_≡_, refl, sym, ap, ap₂, _∙_, subst}
-use mathlib.Core.List.{List, [], _∷_, _++_}
-use mathlib.Core.Option.{Option, none, some}
+use mathlib.Core.Path.{_≡_, refl, sym, ap, ap₂, _∙_}
+use mathlib.Core.List.{List, [], _∷_}
+use mathlib.Core.Option.{none, some}
 use mathlib.Core.Bool.{Bool, true, false, not, _||_}
 use lib.ListN.{length, take, drop, getD}
 use lib.Seq.{take-at, drop-at, drop-drop, take-all, getD-take, getD-drop}
@@ -18,7 +18,7 @@ use Rattle.tables.specs.declared.Place.the-variants.{Found, Missing}
 use Rattle.tables.proofs.Laws as tables
 use Rattle.lent.specs.Lent.{part, placed}
 use Rattle.model.specs.Event.{Text}
-use Rattle.model.specs.Seam.{ResourceId, RequestId}
+use Rattle.model.specs.Seam.{RequestId}
 use Rattle.model.specs.State.{Purpose, SyncState}
 use Rattle.model.specs.Limits.{document01}
 use Rattle.model.specs.Maps.{by-number, same-text, any, filter, get, values}

@@ -1,12 +1,12 @@
 -- The list of the names of the Refreshes: one entry more, and the whole. Assumes nothing.
 use Prim.Native.Nat.{ℕ, zero, suc, _+_, _-_, _*_, _≤_, _<_}
-use native.Mathlib.Nat.{le-trans, not-suc-le-zero, le-of-suc-le-suc}
+use native.Mathlib.Nat.{not-suc-le-zero, le-of-suc-le-suc}
 use native.Mathlib.Omega.{arith}
 use mathlib.Core.Path.{_≡_, refl, sym, ap, ap₂, _∙_, subst}
 use mathlib.Core.List.{List, [], _∷_, _++_, append-assoc, append-nil}
 use mathlib.Core.Option.{Option, none, some}
 use lib.ListN.{length, take, drop, getD, length-append, length-replicate, replicate-append-replicate}
-use lib.Seq.{take-at, drop-at, drop-append-add, take-all}
+use lib.Seq.{take-at, drop-at, drop-append-add}
 use Rattle.format.specs.Format.{All, via, enum, _∣_, nothing}
 use Rattle.spans.specs.Bytes.{zeros}
 use Rattle.tables.specs.Table.{Table, flat, Sized, encTable}
@@ -14,14 +14,13 @@ use Rattle.tables.proofs.Laws as tables
 use Rattle.model.specs.Event.{Text}
 use Rattle.model.specs.Seam.{RequestId}
 use Rattle.model.specs.State.{Map, Purpose, SyncState}
-use Rattle.model.specs.Limits.{document01}
 use Rattle.model.specs.Maps.{filter-map, map, values}
 use Rattle.model.specs.Sync.{refreshed}
 use Rattle.model.specs.Formats.{resourceId}
 use Rattle.model.specs.SavedForm.{purposeF}
-use Rattle.state.specs.Layout.{padded, field, name-slot, flight-slot}
-use Rattle.state.specs.Contract.{state-length, Keeps, HasState}
-use Rattle.state.specs.Values.{name-of, Named}
+use Rattle.state.specs.Layout.{padded, field, name-slot}
+use Rattle.state.specs.Contract.{state-length, HasState}
+use Rattle.state.specs.Values.{Named}
 use Rattle.state.proofs.Padded.{length-name}
 use Rattle.state.proofs.Rows.{length-rows, sized-rows, row-at}
 use Rattle.state.proofs.Columns as columns

@@ -1,29 +1,28 @@
 -- The cursor and the header of the open pass: each law's premises are what the callees ensure. Assumes nothing.
-use Prim.Native.Nat.{ℕ, zero, suc, _+_, _-_, _*_, _≤_, _<_}
+use Prim.Native.Nat.{ℕ, zero, suc, _+_, _-_, _≤_}
 use native.Mathlib.Omega.{arith}
 use mathlib.Core.Path.{_≡_, refl, sym, ap, ap₂, _∙_, subst}
 use mathlib.Core.List.{List, [], _∷_, _++_, append-assoc, append-nil}
 use mathlib.Core.Option.{Option, none, some}
-use mathlib.Core.Bool.{Bool, true, false, not}
+use mathlib.Core.Bool.{true, false, not}
 use lib.ListN.{length, take, drop, getD, length-append, length-replicate, replicate-append-replicate}
-use lib.Seq.{take-at, drop-at, drop-append-add, drop-drop, take-all, getD-take, getD-drop}
-use Rattle.format.specs.Format.{Format, option, boolFrom, via, enum, _∣_, nothing}
+use lib.Seq.{take-at, drop-at, drop-append-add, drop-drop, getD-take, getD-drop}
+use Rattle.format.specs.Format.{option, boolFrom, via, enum, _∣_, nothing}
 use Rattle.format.specs.Format.{text as text-format}
 use Rattle.spans.specs.Bytes.{zeros}
-use Rattle.tables.specs.Table.{flat}
 use Rattle.tables.proofs.Laws as tables
-use Rattle.lent.specs.Lent.{part, placed}
+use Rattle.lent.specs.Lent.{placed}
 use Rattle.model.specs.Event.{Text}
 use Rattle.model.specs.Seam.{Cursor, ListFrom}
 use Rattle.model.specs.State.{Pass, SyncState}
 use Rattle.model.specs.Limits.{max-text}
 use Rattle.model.specs.Maps.{is-some}
-use Rattle.model.specs.Machine.{match_none:_some:_, with-from, with-done}
+use Rattle.model.specs.Machine.{with-from, with-done}
 use Rattle.model.specs.Sync.{new-pass}
 use Rattle.model.specs.Formats.{shortText, listFromF}
 use Rattle.state.specs.Layout.{padded, field, pass-of}
 use Rattle.state.specs.Setters.{with-cursor, with-pass, pass-changed}
-use Rattle.state.specs.Contract.{state-length, Keeps, HasState, Reads, Edits}
+use Rattle.state.specs.Contract.{Keeps, HasState, Reads, Edits}
 use Rattle.state.proofs.Widths.{cursor-within, from-within}
 use Rattle.state.proofs.Padded.{length-field, length-padded}
 use Rattle.state.proofs.Parts as parts
@@ -110,6 +109,14 @@ cursor-short w K = cursor-text-in w 9151 (K .state .cursor) (K .keeps .fits .cur
 pub cursor-reads : (w r : List ℕ) → r ≡ take (getD w (9151 + 1) 0) (drop (9151 + 2) w) → Reads (λ s. cursor-text-of (s .cursor)) w r
 cursor-reads w r e = record { is = λ s h. e ∙ cursor-text-in w 9151 (s .cursor) (h .fits .cursor) (parts.cursor-part s w h) .0 }
 
+cursor-fits : (c : Option Cursor) → option shortText .Ok c → length (cursor-text-of c) ≤ 32
+unfolding option via enum _∣_ text-format max-text
+cursor-fits none ok = omega arith
+cursor-fits (some c) ok = ok .0
+
+pub cursor-within-32 : (w r : List ℕ) → HasState w → r ≡ take (getD w (9151 + 1) 0) (drop (9151 + 2) w) → length r ≤ 32
+cursor-within-32 w r K e = subst (λ (x : List ℕ). length x ≤ 32) (sym (cursor-reads w r e .is (K .state) (K .keeps))) (cursor-fits (K .state .cursor) (K .keeps .fits .cursor))
+
 put-in : (at : ℕ) (q w w′ : List ℕ) → length q ≡ 34 → w′ ≡ take at w ++ (q ++ drop (at + length q) w) → w′ ≡ placed at 34 q w
 put-in at q w w′ l e = e ∙ ap (λ (x : List ℕ). take at w ++ (q ++ x)) (ap (λ (n : ℕ). drop (at + n) w) l ∙ sym (drop-drop 34 at w))
 
@@ -174,10 +181,6 @@ pass-opened w w1 w2 w3 q full f e e1 e2 e3 = record {
 pub unchanged : (f : Pass → Pass) (w : List ℕ) → getD w 9185 0 ≡ 0 → Edits (pass-changed f) w w
 unchanged f w z = record { makes = λ s h. subst (λ (x : SyncState). Keeps x w) (pass.pass-none f s (pass.closed s w h z)) h }
 
-pass-some : (f : Pass → Pass) (s : SyncState) (p : Pass) → s .pass ≡ some p → with-pass (some (f p)) s ≡ pass-changed f s
-unfolding pass-changed match_none:_some:_
-pass-some f s p e = sym (ap (λ (o : Option Pass). match o none: s some: (λ pass. with-pass (some (f pass)) s)) e)
-
 pub short-long : (t : Text) → shortText .Ok t → length t ≤ 32
 unfolding text-format max-text
 short-long t ok = ok .0
@@ -189,7 +192,7 @@ from-set t q w w′ ok z e p = record {
   makes = λ s h.
       let o = pass.opened s w h z in
       let l : length q ≡ 34 = ap length e ∙ length-field from-within (ListFrom.Continue t) ok in
-      subst (λ (x : SyncState). Keeps x w′) (pass-some (with-from (ListFrom.Continue t)) s (o .pass) (o .is))
+      subst (λ (x : SyncState). Keeps x w′) (pass.pass-some (with-from (ListFrom.Continue t)) s (o .pass) (o .is))
       (subst (Keeps (with-pass (some (with-from (ListFrom.Continue t) (o .pass))) s)) (sym (put-in 9187 q w w′ l p ∙ ap (λ (x : List ℕ). placed 9187 34 x w) e)) (parts.from-put s w (o .pass) (ListFrom.Continue t) (o .is) h ok));
 }
 
@@ -200,7 +203,7 @@ done-set t q w w′ ok z e p = record {
   makes = λ s h.
       let o = pass.opened s w h z in
       let l : length q ≡ 34 = ap length e ∙ length-field cursor-within (some t) ok in
-      subst (λ (x : SyncState). Keeps x w′) (pass-some (with-done (some t)) s (o .pass) (o .is))
+      subst (λ (x : SyncState). Keeps x w′) (pass.pass-some (with-done (some t)) s (o .pass) (o .is))
       (subst (Keeps (with-pass (some (with-done (some t) (o .pass))) s)) (sym (put-in 19968 q w w′ l p ∙ ap (λ (x : List ℕ). placed 19968 34 x w) e)) (parts.done-put s w (o .pass) (some t) (o .is) h ok));
 }
 
@@ -230,6 +233,15 @@ from-short w K = from-text-in w (pass-of (K .state .pass) .from) (K .keeps .fits
 
 pub from-reads : (w r : List ℕ) → r ≡ take (getD w (9187 + 1) 0) (drop (9187 + 2) w) → Reads (λ s. text-of (pass-of (s .pass) .from)) w r
 from-reads w r e = record { is = λ s h. e ∙ from-text-in w (pass-of (s .pass) .from) (h .fits .pass .from) (parts.from-part s w h) .0 }
+
+from-fits : (x : ListFrom) → listFromF .Ok x → length (text-of x) ≤ 32
+unfolding listFromF via enum _∣_ text-format max-text
+from-fits ListFrom.Start ok = omega arith
+from-fits (ListFrom.Since c) ok = ok .0
+from-fits (ListFrom.Continue c) ok = ok .0
+
+pub from-within-32 : (w r : List ℕ) → HasState w → r ≡ take (getD w (9187 + 1) 0) (drop (9187 + 2) w) → length r ≤ 32
+from-within-32 w r K e = subst (λ (x : List ℕ). length x ≤ 32) (sym (from-reads w r e .is (K .state) (K .keeps))) (from-fits (pass-of (K .state .pass) .from) (K .keeps .fits .pass .from))
 
 -- the case and the text are the whole
 pub from-whole : (x : ListFrom) → from-in (kind-of x) (text-of x) ≡ x

@@ -1,11 +1,11 @@
 -- All regions of a pass at once: another pass, or none, in their place. Assumes nothing.
-use Prim.Native.Nat.{ℕ, zero, suc, _+_, _-_, _*_, _≤_, _<_}
+use Prim.Native.Nat.{ℕ, suc, _+_, _-_}
 use native.Mathlib.Omega.{arith}
-use mathlib.Core.Path.{_≡_, refl, sym, ap, ap₂, _∙_, subst}
+use mathlib.Core.Path.{_≡_, refl, sym, ap, ap₂, _∙_}
 use mathlib.Core.List.{List, [], _∷_, _++_}
 use mathlib.Core.Option.{Option, none, some}
-use mathlib.Core.Bool.{Bool, true, false, not}
-use lib.ListN.{length, take, drop, replicate-append-replicate}
+use mathlib.Core.Bool.{false, not}
+use lib.ListN.{length, drop, replicate-append-replicate}
 use lib.Seq.{take-at, drop-at}
 use Rattle.format.specs.Format.{option, stamp, bool, boolFrom, via, enum, below, _∣_, nothing}
 use Rattle.spans.specs.Bytes.{zeros}

@@ -1,6 +1,6 @@
 // The cursor and the header of the open pass: whether one is open, where its listing goes on from, and the cursor that it ends with.
 ghost use mathlib.Core.Path.{_≡_};
-ghost use mathlib.Core.List.{[], _∷_};
+ghost use mathlib.Core.List.{_∷_};
 ghost use mathlib.Core.Option.{none, some};
 ghost use Prim.Native.Nat.{_+_, _≤_};
 ghost use lib.ListN.{length, take, drop, getD};
@@ -92,6 +92,7 @@ pub fn has_cursor(work: &[u8]) -> bool
 pub fn cursor_text(work: &[u8]) -> &[u8]
     requires { ⌜ HasState (now work) ⌝ }
     ensures { λ r. ⌜ Reads (λ s. cursor-text-of (s .cursor)) (now (work .entry)) (now r) ⌝ }
+    ensures { λ r. ⌜ length (now r) ≤ 32 ⌝ }
 {
     text_at(work, CURSOR)
 }
@@ -213,6 +214,7 @@ pub fn from_kind(work: &[u8]) -> FromKind
 pub fn from_text(work: &[u8]) -> &[u8]
     requires { ⌜ HasState (now work) ⌝ }
     ensures { λ r. ⌜ Reads (λ s. text-of (pass-of (s .pass) .from)) (now (work .entry)) (now r) ⌝ }
+    ensures { λ r. ⌜ length (now r) ≤ 32 ⌝ }
 {
     text_at(work, FROM)
 }

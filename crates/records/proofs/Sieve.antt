@@ -1,9 +1,9 @@
 -- The records that a full pass has seen: one record tested, and all. Assumes nothing.
-use Prim.Native.Nat.{ℕ, zero, suc, _+_, _-_, _≤_, _<_, Ordering, Ordering·lt, Ordering·eq, Ordering·gt}
+use Prim.Native.Nat.{ℕ, suc, _+_, _-_, _≤_, _<_, Ordering·lt, Ordering·gt}
 use native.Mathlib.Omega.{arith}
 use mathlib.Core.Path.{_≡_, refl, sym, ap, ap₂, _∙_, subst}
-use mathlib.Core.List.{List, [], _∷_, _++_, append-assoc, append-nil}
-use mathlib.Core.Bool.{Bool, true, false, _&&_}
+use mathlib.Core.List.{List, [], _∷_, _++_, append-assoc}
+use mathlib.Core.Bool.{Bool, true, false}
 use mathlib.Core.Logic.{_⊎_, inl, inr, ⊎-elim}
 use lib.ListN.{length, getD, length-append}
 use lib.Dec.{T}
@@ -17,7 +17,7 @@ use Rattle.model.proofs.Tables.{turned, and-left, and-right, is-lt, by-name-sel
 use Rattle.state.specs.Layout.{name-slot, pass-of}
 use Rattle.state.specs.Setters.{with-records}
 use Rattle.state.specs.Contract.{Keeps, HasState, Reads, Edits}
-use Rattle.state.specs.Values.{name-of, Named}
+use Rattle.state.specs.Values.{name-of}
 use Rattle.state.proofs.Padded.{text-name-only}
 use Rattle.state.proofs.Columns as columns
 use Rattle.records.specs.Events.{record-name}

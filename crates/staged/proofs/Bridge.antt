@@ -1,9 +1,9 @@
 -- The functions on the pass in the model's words. Assumes nothing.
 use mathlib.Core.Path.{_≡_, refl}
 use mathlib.Core.Option.{Option, none, some}
-use mathlib.Core.Bool.{Bool, true, false, not, _&&_}
+use mathlib.Core.Bool.{not, _&&_}
 use Rattle.model.specs.Event.{Text}
-use Rattle.model.specs.State.{Pass, SyncState}
+use Rattle.model.specs.State.{Pass}
 use Rattle.model.specs.Maps.{by-name, any, get, values, is-some, is-some-and}
 use Rattle.model.specs.Machine.{Machine}
 use Rattle.model.specs.Sync.{is-unread, pass-done, pass-full, listed-unread, ready}

@@ -44,12 +44,6 @@ use Rattle.staged.specs.Staging.{staged-of, may-stage, with-stage, witho
 use Rattle.staged.specs.declared.StagedKind.{StagedKind}
 use Rattle.staged.specs.declared.StagedKind.the-variants as kind
 
--- ---- the open pass changed
-
-pass-some : (f : Pass → Pass) (s : SyncState) (p : Pass) → s .pass ≡ some p → with-pass (some (f p)) s ≡ pass-changed f s
-unfolding pass-changed match_none:_some:_
-pass-some f s p e = sym (ap (λ (o : Option Pass). match o none: s some: (λ pass. with-pass (some (f pass)) s)) e)
-
 abbrev own-key : Text → List ℕ
 own-key name = name
 
@@ -57,7 +51,7 @@ pub staged-column : Column by-name resourceId stagedF staged-slot own-key 10 916
 unfolding document01
 staged-column = record {
   part-is = parts.staged-part;
-  put = λ s w v o h k. subst (λ (x : SyncState). Keeps x (placed 9221 9161 (encTable 9161 (map staged-slot v)) w)) (pass-some (with-staged v) s (o .pass) (o .is)) (parts.staged-put s w (o .pass) v (o .is) h k);
+  put = λ s w v o h k. subst (λ (x : SyncState). Keeps x (placed 9221 9161 (encTable 9161 (map staged-slot v)) w)) (pass.pass-some (with-staged v) s (o .pass) (o .is)) (parts.staged-put s w (o .pass) v (o .is) h k);
   held = λ s f. f .pass .staged;
   room = refl;
   inside = omega arith;
@@ -78,7 +72,7 @@ rows-of s p e = ap (λ (o : Option Pass). pass-of o .staged) e
 
 in-pass : (f : Rows → Rows) (s : SyncState) (p : Pass) → s .pass ≡ some p → pass-changed (with-staged (f (staged-of s))) s ≡ pass-changed (λ p. with-staged (f (p .staged)) p) s
 in-pass f s p e =
-    sym (pass-some (with-staged (f (staged-of s))) s p e) ∙ ap (λ (m : Rows). with-pass (some (with-staged (f m) p)) s) (rows-of s p e) ∙ pass-some (λ p. with-staged (f (p .staged)) p) s p e
+    sym (pass.pass-some (with-staged (f (staged-of s))) s p e) ∙ ap (λ (m : Rows). with-pass (some (with-staged (f m) p)) s) (rows-of s p e) ∙ pass.pass-some (λ p. with-staged (f (p .staged)) p) s p e
 
 in-limit : (name : Text) (v : Staged) (s : SyncState) (p : Pass) → s .pass ≡ some p → leb (length (insert by-name name v (staged-of s))) 10 ≡ may-stage name v s
 unfolding match_none:_some:_

@@ -1,15 +1,15 @@
 -- The version of an event: where its parts stand, and how two compare. Assumes nothing.
-use Prim.Native.Nat.{ℕ, zero, suc, _+_, _-_, _*_, _^_, _≤_, _<_, Ordering, Ordering·lt, Ordering·eq, Ordering·gt}
+use Prim.Native.Nat.{ℕ, suc, _+_, _-_, _^_, _≤_, _<_, Ordering, Ordering·lt, Ordering·eq, Ordering·gt}
 use native.Mathlib.Omega.{arith}
-use mathlib.Core.Path.{_≡_, refl, sym, ap, ap₂, _∙_, subst}
-use mathlib.Core.List.{List, [], _∷_, _++_, append-assoc, append-nil}
+use mathlib.Core.Path.{_≡_, refl, sym, ap, ap₂, _∙_}
+use mathlib.Core.List.{List, [], _∷_, _++_, append-assoc}
 use mathlib.Core.Option.{Option, none, some}
 use mathlib.Core.Bool.{Bool, true, false, not, _&&_, _||_}
 use lib.ListN.{length, take, drop, getD, length-append, length-drop, length-replicate, replicate-append-replicate, take-append-drop}
 use lib.Seq.{take-at, drop-at, drop-drop, drop-append-add, take-all, getD-drop}
-use lib.Dec.{leb, ltb, isEq}
+use lib.Dec.{ltb, isEq}
 use borrow.Author.Tests.{le-leb, lt-leb, lt-ltb, le-ltb}
-use Rattle.format.specs.Format.{Format, option, via, enum, _∣_, nothing, _⊗_, below, number, bigEndian}
+use Rattle.format.specs.Format.{option, via, enum, _∣_, nothing, _⊗_, below, number, bigEndian}
 use Rattle.format.specs.Format.{text as text-format}
 use Rattle.format.proofs.FormatLaws.{text-law, option-law}
 use Rattle.spans.specs.Bytes.{zeros}

@@ -18,7 +18,7 @@ text-at-requires c κs =
     (omega arith, h)
 
 returns : tie.Need-returns
-returns c = laws.from-reads (c .before .before .args .work .now) _ (c .text-at .ensures)
+returns c = (laws.from-reads (c .before .before .args .work .now) _ (c .text-at .ensures), laws.from-within-32 (c .before .before .args .work .now) _ (c .before .before .pre) (c .text-at .ensures))
 
 pub from-text-spec : {M : Type 1} → statement M
 from-text-spec = tie.close (tie.spec text-at-requires returns)

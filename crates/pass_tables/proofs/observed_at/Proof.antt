@@ -33,7 +33,7 @@ name-at-requires c κs =
     omega arith
 
 returns : tie.Need-returns
-returns c = laws.nth laws.observed-roster (c .before .before .args .work .now) (c .name-at .result .bytes) (c .before .before .args .i) (c .before .before .pre .1) (c .name-at .ensures)
+returns c = (laws.nth laws.observed-roster (c .before .before .args .work .now) (c .name-at .result .bytes) (c .before .before .args .i) (c .before .before .pre .1) (c .name-at .ensures), laws.nth-named laws.observed-roster (c .before .before .args .work .now) (c .name-at .result .bytes) (c .before .before .args .i) (c .before .before .pre .0) (c .before .before .pre .1) (c .name-at .ensures))
 
 pub observed-at-spec : {M : Type 1} → statement M
 observed-at-spec =

@@ -33,7 +33,7 @@ name-at-requires c κs =
     omega arith
 
 returns : tie.Need-returns
-returns c = laws.nth laws.seen-roster (c .before .before .args .work .now) (c .name-at .result .bytes) (c .before .before .args .i) (c .before .before .pre .1) (c .name-at .ensures)
+returns c = (laws.nth laws.seen-roster (c .before .before .args .work .now) (c .name-at .result .bytes) (c .before .before .args .i) (c .before .before .pre .1) (c .name-at .ensures), laws.nth-named laws.seen-roster (c .before .before .args .work .now) (c .name-at .result .bytes) (c .before .before .args .i) (c .before .before .pre .0) (c .before .before .pre .1) (c .name-at .ensures))
 
 pub seen-at-spec : {M : Type 1} → statement M
 seen-at-spec = tie.close (tie.spec add-name-at mul-name-at add-name-at-2 name-at-requires returns)
