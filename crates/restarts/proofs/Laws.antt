@@ -34,6 +34,7 @@ use Rattle.waiting.specs.Queues.{queue-in, put-in, queue, put-queue}
 use Rattle.machine.specs.declared.Progress.{Progress}
 use Rattle.machine.specs.Contract.{Does}
 use Rattle.machine.proofs.Runs as runs
+use Rattle.passes.specs.Reading.{request-from}
 use Rattle.restarts.specs.Resuming.{doubt-lost, restart-edits, Queued, HasQueued}
 
 -- ---- the Refreshes that were in flight
@@ -165,9 +166,6 @@ restarts-edits {w} {b = b} n K L d =
 
 -- ---- the open pass
 
-abbrev listing : Machine → Run
-listing m = request Purpose.List (Request.List (pass-of (m .state .pass) .from)) m
-
 pub pass-closed : {w o : List ℕ} {p : Progress} {v : Bool} → Reads (λ s. is-some (s .pass)) w v → v ≡ false → Does (in-pass resume-pass) w o p p w o
 unfolding in-pass match_none:_some:_ is-some
 pass-closed R e = runs.is-held (in-pass resume-pass) (λ m h. go m (m .state .pass) (sym e ∙ R .is (m .state) (h .keeps))) runs.nothing
@@ -187,8 +185,8 @@ pass-listed R e S f D =
     go m (some p) e f = rw (← f)
 
 pub pass-asks : {w o w₁ o₁ w′ o′ : List ℕ} {p q r : Progress} {v d : Bool} → Reads (λ s. is-some (s .pass)) w v → v ≡ true → Reads (λ s. is-some (pass-of (s .pass) .done)) w d → d ≡ false
-    → Does listing w o p q w₁ o₁ → Does read-unread w₁ o₁ q r w′ o′ → Does (in-pass resume-pass) w o p r w′ o′
-unfolding in-pass match_none:_some:_ is-some pass-of resume-pass if_then_else_ _>>=_
+    → Does request-from w o p q w₁ o₁ → Does read-unread w₁ o₁ q r w′ o′ → Does (in-pass resume-pass) w o p r w′ o′
+unfolding request-from in-pass match_none:_some:_ is-some pass-of resume-pass if_then_else_ _>>=_
 pass-asks R e S f D U =
     runs.is-held (in-pass resume-pass) (λ m h. go m (m .state .pass) refl (sym e ∙ R .is (m .state) (h .keeps)) (sym f ∙ S .is (m .state) (h .keeps))) (runs.next D U)
   where

@@ -4,8 +4,8 @@ ghost use mathlib.Core.List.{List as Vec, []};
 ghost use Prim.Native.Nat.{ℕ, _<_};
 ghost use lib.ListN.{length, getD};
 ghost use Rattle.model.specs.Event.{Text};
-ghost use Rattle.model.specs.Machine.{for-each};
-ghost use Rattle.model.specs.Sync.{doubt, restart-edit};
+ghost use Rattle.model.specs.Machine.{for-each, in-pass};
+ghost use Rattle.model.specs.Sync.{doubt, resume-pass, restart-edit, resume};
 ghost use Rattle.state.specs.Layout.{name-slot};
 ghost use Rattle.state.specs.Contract.{HasState};
 ghost use Rattle.state.specs.Values.{name-of, Named};
@@ -34,7 +34,7 @@ fn doubt_each(work: &mut [u8], out: &mut [u8], p: Progress, names: &[u8], count:
 }
 
 // Nothing is in flight any more, and the resources of the lost Refreshes are doubted.
-pub fn doubt_lost(work: &mut [u8], out: &mut [u8], p: Progress) -> Progress
+fn doubt_lost(work: &mut [u8], out: &mut [u8], p: Progress) -> Progress
     requires { ⌜ HasState (now work) ⌝ }
     ensures { λ r. ⌜ Does doubt-lost (now (work .entry)) (now (out .entry)) p r (now (work .exit)) (now (out .exit)) ⌝ }
 {
@@ -43,6 +43,22 @@ pub fn doubt_lost(work: &mut [u8], out: &mut [u8], p: Progress) -> Progress
     let names = list.bytes;
     state::clear_in_flight(work);
     doubt_each(work, out, p, &names, count)
+}
+
+// ---- the open pass
+
+fn resume_pass(work: &mut [u8], out: &mut [u8], p: Progress) -> Progress
+    requires { ⌜ HasState (now work) ⌝ }
+    ensures { λ r. ⌜ Does (in-pass resume-pass) (now (work .entry)) (now (out .entry)) p r (now (work .exit)) (now (out .exit)) ⌝ }
+{
+    if !pass_tables::is_open(work) {
+        return p;
+    }
+    if pass_header::is_done(work) {
+        return observe::read_unread(work, out, p);
+    }
+    let q = passes::request_list(work, out, p);
+    observe::read_unread(work, out, q)
 }
 
 // ---- the heads of the queues
@@ -85,7 +101,7 @@ fn restart_each(
     q
 }
 
-pub fn restart_edits(work: &mut [u8], out: &mut [u8], p: Progress) -> Progress
+fn restart_edits(work: &mut [u8], out: &mut [u8], p: Progress) -> Progress
     requires { ⌜ HasState (now work) ⌝ }
     ensures { λ r. ⌜ Does restart-edits (now (work .entry)) (now (out .entry)) p r (now (work .exit)) (now (out .exit)) ⌝ }
 {
@@ -93,4 +109,14 @@ pub fn restart_edits(work: &mut [u8], out: &mut [u8], p: Progress) -> Progress
     let count = list.count;
     let names = list.bytes;
     restart_each(work, out, p, &names, count)
+}
+
+// SyncState::resume
+pub fn resume(work: &mut [u8], out: &mut [u8], p: Progress) -> Progress
+    requires { ⌜ HasState (now work) ⌝ }
+    ensures { λ r. ⌜ Does resume (now (work .entry)) (now (out .entry)) p r (now (work .exit)) (now (out .exit)) ⌝ }
+{
+    let q = doubt_lost(work, out, p);
+    let r = resume_pass(work, out, q);
+    restart_edits(work, out, r)
 }
