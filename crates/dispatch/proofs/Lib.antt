@@ -1,0 +1,2 @@
+-- Which function handles which input and which answer.
+pub mod Laws

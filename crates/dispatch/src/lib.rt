@@ -1,0 +1,1 @@
+// One input: which function handles it. The laws stand in proofs/.

@@ -1,0 +1,5 @@
+-- From what the functions promise to the model's `entry`.
+pub mod Laws
+pub mod Entry
+-- The three demands.
+pub mod Theorems

@@ -1,0 +1,4 @@
+-- What a call is lent and what it leaves, as the code has them.
+pub mod Answers
+-- The three demands.
+pub mod Demands

@@ -1,0 +1,2 @@
+-- What is lost with a restart, and asked for again.
+pub mod Laws

@@ -1,0 +1,2 @@
+-- Parts of `resume`.
+pub mod Resuming
