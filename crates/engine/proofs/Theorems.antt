@@ -4,27 +4,19 @@ use mathlib.Core.List.{List, [], _∷_}
 use mathlib.Core.Option.{Option, none, some}
 use mathlib.Core.Bool.{Bool, true, false}
 use lib.Dec.{T}
-use Rattle.model.specs.Calls.{Input}
+use Rattle.model.specs.Calls.{Input, Effect}
 use Rattle.model.specs.State.{SyncState}
 use Rattle.model.specs.Limits.{document01}
 use Rattle.model.specs.Maps.{if_then_else_, map}
 use Rattle.model.specs.Formats.{Bytes, inputF}
 use Rattle.model.specs.Machine.{match_none:_some:_}
-use Rattle.model.specs.Sync.{step}
+use Rattle.model.specs.Sync.{Stepped, step}
 use Rattle.model.specs.WellFormed.{WellFormed}
 use Rattle.model.specs.Layout.{stateBytes}
-use Rattle.model.specs.Entry.{Lent, Answer, IsState, lengths-right, read-state, decode, step-frame, answered, entry}
+use Rattle.model.specs.Entry.{Lent, Answer, IsState, lengths-right, read-state, decode, step-frame, leaves, answered, entry}
 use Rattle.model.specs.Demands.{Call, lend, call, state-after, after-calls, answer-of, bytes-after}
 use Rattle.model.proofs.Theorems as model
 use Rattle.engine.specs.Demands.{Called, Demand1, Demand2, Linked, left, plain, Answers, Meets}
-
-pub demand-1 : (c : Called) → Demand1 c
-demand-1 c =
-    let d = model.demand-1 document01 (c .lent) (c .frame) in
-    record {
-      refused = λ n. ap (λ (a : Answer). a .lent .state) (c .is) ∙ d .refused (λ z. n (ap (λ (a : Answer). a .code) (c .is) ∙ z));
-      accepted = λ z. subst (λ (a : Answer). IsState document01 (a .lent .state)) (sym (c .is)) (d .accepted (sym (ap (λ (a : Answer). a .code) (c .is)) ∙ z));
-    }
 
 entry-is : (lent : Lent) (frame : Bytes) (s : SyncState) (i : Input) (b : Bool) → T b → lengths-right document01 lent ≡ b → read-state document01 (lent .state) ≡ some s → decode frame ≡ some i
     → entry document01 lent frame ≡ answered document01 lent (step document01 s i)
@@ -38,6 +30,20 @@ demand-2 c s w i ok = record {
   same = λ l e f. c .is ∙ entry-is (c .lent) (c .frame) s i (lengths-right document01 (c .lent)) l refl
       (model.states-exact document01 (c .lent .state) s .1 (w, e)) (model.accepted (c .frame) i .1 (ok, f));
 }
+
+done-code : (lent : Lent) (r : Stepped) (s : SyncState) (effects : List Effect) → r ≡ Stepped.Done s effects → answered document01 lent r .code ≡ 0
+unfolding answered leaves
+done-code lent r s effects e = rw e
+
+pub demand-1 : (c : Called) → Demand1 c
+demand-1 c =
+    let d = model.demand-1 document01 (c .lent) (c .frame) in
+    record {
+      refused = λ n. ap (λ (a : Answer). a .lent .state) (c .is) ∙ d .refused (λ z. n (ap (λ (a : Answer). a .code) (c .is) ∙ z));
+      accepted = λ z. subst (λ (a : Answer). IsState document01 (a .lent .state)) (sym (c .is)) (d .accepted (sym (ap (λ (a : Answer). a .code) (c .is)) ∙ z));
+      others = λ s w i v s′ effects e l b f.
+          ap (λ (a : Answer). a .code) (demand-2 c s w i v .same l b f) ∙ done-code (c .lent) (step document01 s i) s′ effects e;
+    }
 
 -- lent the state's bytes, it answers what the model's call gives
 one : (c : Called) (s : SyncState) → WellFormed document01 s → c .lent .state ≡ stateBytes document01 .enc s → c .answer ≡ answer-of document01 s (plain c)

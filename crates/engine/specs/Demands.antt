@@ -3,12 +3,12 @@
 use mathlib.Core.Path.{_≡_}
 use mathlib.Core.List.{List, [], _∷_}
 use lib.Dec.{T}
-use Rattle.model.specs.Calls.{Input}
+use Rattle.model.specs.Calls.{Input, Effect}
 use Rattle.model.specs.State.{SyncState}
 use Rattle.model.specs.Limits.{document01}
 use Rattle.model.specs.Maps.{map}
 use Rattle.model.specs.Formats.{Bytes, inputF}
-use Rattle.model.specs.Sync.{step}
+use Rattle.model.specs.Sync.{Stepped, step}
 use Rattle.model.specs.WellFormed.{WellFormed}
 use Rattle.model.specs.Layout.{stateBytes}
 use Rattle.model.specs.Entry.{Lent, Answer, IsState, lengths-right, answered, entry}
@@ -30,6 +30,9 @@ pub record Demand1 (c : Called) : Type 0 where
   pub refused : (c .answer .code ≡ 0 → ⊥) → c .answer .lent .state ≡ c .lent .state
   -- an accepted one leaves a well-formed state
   pub accepted : c .answer .code ≡ 0 → IsState document01 (c .answer .lent .state)
+  -- right lengths, a well-formed state, an input and a step that the definitions do not refuse: it is accepted
+  pub others : (s : SyncState) → WellFormed document01 s → (i : Input) → inputF .Ok i → (s′ : SyncState) (effects : List Effect) → step document01 s i ≡ Stepped.Done s′ effects
+      → T (lengths-right document01 (c .lent)) → c .lent .state ≡ stateBytes document01 .enc s → c .frame ≡ inputF .enc i → c .answer .code ≡ 0
 
 -- ---- demand 2
 
