@@ -133,12 +133,12 @@ deletes id r d g = runs.is (deleted id r) (λ m. refl) (runs.next d g)
 
 -- ---- read_again
 
-some-first : (x : Queue) (n : ℕ) → n ≡ length x → (n ≡ 0 → ⊥) → is-some (nth 0 x) ≡ true
+pub some-first : (x : Queue) (n : ℕ) → n ≡ length x → (n ≡ 0 → ⊥) → is-some (nth 0 x) ≡ true
 unfolding is-some nth
 some-first [] n e z = absurd (z e)
 some-first (y ∷ x) n e z = refl
 
-none-first : (x : Queue) (n : ℕ) → n ≡ length x → n ≡ 0 → is-some (nth 0 x) ≡ false
+pub none-first : (x : Queue) (n : ℕ) → n ≡ length x → n ≡ 0 → is-some (nth 0 x) ≡ false
 unfolding is-some nth
 none-first [] n e z = refl
 none-first (y ∷ x) n e z = absurd (omega arith)
