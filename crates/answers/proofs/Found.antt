@@ -10,10 +10,10 @@ use Rattle.format.specs.Format.{option, enum, _∣_, via}
 use Rattle.model.specs.Event.{ProviderEvent}
 use Rattle.model.specs.Seam.{ResourceId, RequestId, Failure, Outcome}
 use Rattle.model.specs.Calls.{Rejection}
-use Rattle.model.specs.State.{Pending, Queue, SyncState}
+use Rattle.model.specs.State.{Queue}
 use Rattle.model.specs.Maps.{if_then_else_, by-name, get, is-some, is-some-and, first}
 use Rattle.model.specs.Formats.{eventF, outcomeF}
-use Rattle.model.specs.Machine.{Machine, Run, ok, _>>=_, match_none:_some:_, queue-of}
+use Rattle.model.specs.Machine.{Machine, ok, _>>=_, match_none:_some:_, queue-of}
 use Rattle.model.specs.Sync.{creates-under-key, head, looks-up, doubtful, doubt, learn, observe, read-for-edit, finish, finish-queue, describe, Answer, answer, answer-failed, read-again, edit-read-found, edit-read-answered, on-edit-read}
 use Rattle.frame.specs.Read.{Means}
 use Rattle.frame.specs.Meaning.{eventAt, optionEventAt, meantFailure, meantOutcome}
@@ -24,11 +24,11 @@ use Rattle.frame.specs.declared.Failure as failure
 use Rattle.values.specs.Parts.{meantListed}
 use Rattle.values.specs.declared.Listed.{Listed}
 use Rattle.values.specs.declared.Listed.the-variants.{Nothing, Event}
-use Rattle.state.specs.Contract.{Keeps, HasState, Reads}
+use Rattle.state.specs.Contract.{Keeps, Reads}
 use Rattle.waiting.specs.Queues.{queue, nth}
 use Rattle.waiting.proofs.Bridge as bridge
 use Rattle.machine.specs.declared.Progress.{Progress}
-use Rattle.machine.specs.Contract.{Holds, Does, Changes}
+use Rattle.machine.specs.Contract.{Does, Changes}
 use Rattle.machine.proofs.Runs as runs
 use Rattle.observe.proofs.Parts.{found-is}
 use Rattle.writes.specs.Plans.{plan-head}

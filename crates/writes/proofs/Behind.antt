@@ -1,10 +1,10 @@
 -- The entries behind a head, moved one at a time, against the definition; and remap. Assumes nothing.
-use Prim.Native.Nat.{ℕ, zero, suc, _+_, _-_, _≤_, _<_, Ordering, Ordering·eq}
+use Prim.Native.Nat.{ℕ, zero, suc, _+_, _-_, _≤_, _<_, Ordering·eq}
 use native.Mathlib.Omega.{arith}
-use mathlib.Core.Path.{_≡_, refl, sym, ap, ap₂, _∙_, subst}
+use mathlib.Core.Path.{_≡_, refl, sym, ap, _∙_, subst}
 use mathlib.Core.List.{List, [], _∷_, _++_, append-nil}
 use mathlib.Core.Bool.{Bool, true, false, not, false≢true}
-use lib.Dec.{eqb, leb}
+use lib.Dec.{leb}
 use lib.ListN.{length}
 use borrow.Author.Tests.{eq-eqb, ne-eqb}
 use Rattle.model.specs.Seam.{ResourceId}
@@ -12,23 +12,23 @@ use Rattle.model.specs.Calls.{Notice, Effect}
 use Rattle.model.specs.State.{Map, Pending, Queue, SyncState, with-aliases}
 use Rattle.model.specs.Limits.{document01}
 use Rattle.model.specs.Maps.{if_then_else_, same-text, by-name, insert, map, filter, is-empty}
-use Rattle.model.specs.Machine.{Machine, Run, refused, ok, _>>=_, with-state, within, push, tell, set-aliases, queue-of, set-queue, set-edits}
-use Rattle.model.specs.Sync.{is-create, with-resource, move-to, move-behind, remap, start-edit, start-queue}
+use Rattle.model.specs.Machine.{Machine, Run, ok, with-state, within, tell, set-aliases, queue-of, set-queue, set-edits}
+use Rattle.model.specs.Sync.{is-create, move-to, move-behind, remap, start-edit, start-queue}
 use Rattle.model.proofs.Tables.{same-self, by-name-same, name-order}
 use Rattle.state.specs.Setters.{with-edits}
 use Rattle.state.specs.Contract.{Keeps, HasState, Reads, Edits, Tries}
-use Rattle.waiting.specs.Queues.{queue-in, put-in, queue, put-queue, renamed, nth, moved}
+use Rattle.waiting.specs.Queues.{put-in, queue, put-queue, renamed, nth, moved}
 use Rattle.waiting.specs.Reading.{operation-case-of}
-use Rattle.waiting.proofs.Bridge.{queue-is, put-is}
+use Rattle.waiting.proofs.Bridge.{queue-is}
 use Rattle.waiting.proofs.Splices.{rows-count}
 use Rattle.machine.specs.declared.Progress.{Progress}
-use Rattle.machine.specs.Contract.{Holds, Does, Changes, Pushes}
+use Rattle.machine.specs.Contract.{Does, Changes, Pushes}
 use Rattle.machine.specs.Steps.{tried-by}
 use Rattle.machine.proofs.Runs as runs
 use Rattle.machine.proofs.Steps as steps
 use Rattle.writes.specs.Moves.{stays-at, one-moved, place-after, MovesOne, sweep, swept}
 use Rattle.writes.proofs.Inserts.{insert-there}
-use Rattle.writes.proofs.Moves.{form, form-to, sweep-form, at-form, queue-there, queue-other, put-some}
+use Rattle.writes.proofs.Moves.{form, sweep-form, at-form, queue-there, queue-other, put-some}
 
 abbrev kept : Queue → Queue
 kept R = filter (λ q. is-create (q .edit .operation)) R
@@ -77,9 +77,9 @@ module _ (from to : ResourceId) (d : by-name from to ≡ Ordering·eq → ⊥) (
     unfolding form map
     none-go l =
         let f : with-edits E s ≡ swept from to s =
-            ap (λ (q : Queue). with-edits (insert by-name from (p ∷ q) (s .edits)) s) (sym (append-nil (kept R)))
-            ∙ ap (λ (M : Queue). with-edits (form from to d d′ p (s .edits) (kept R) (map (renamed to) M) []) s) (sym l)
-            ∙ sym (swept-is s p R e) in
+        ap (λ (q : Queue). with-edits (insert by-name from (p ∷ q) (s .edits)) s) (sym (append-nil (kept R)))
+        ∙ ap (λ (M : Queue). with-edits (form from to d d′ p (s .edits) (kept R) (map (renamed to) M) []) s) (sym l)
+        ∙ sym (swept-is s p R e) in
         let g : queue to (with-edits E s) ≡ queue to s = queue-other to from (p ∷ kept R) (s .edits) d′ in
         ap (λ (x : SyncState). ok (with-state x m)) f ∙ quiet (with-state (swept from to s) m) (queue to s) (ap (queue to) (sym f) ∙ g)
 
@@ -91,10 +91,10 @@ module _ (from to : ResourceId) (d : by-name from to ≡ Ordering·eq → ⊥) (
         let m₁ : Machine = with-state (with-edits E s) m in
         let t : queue-of to m₁ ≡ queue to s = queue-is to m₁ ∙ queue-other to from (p ∷ kept R) (s .edits) d′ in
         let f : put-queue to (queue to s ++ map (renamed to) (b ∷ B)) (m₁ .state) ≡ swept from to s =
-            ap (λ (G : Map ResourceId Queue). with-edits G s) (put-some to (queue to s) (renamed to b) (map (renamed to) B) E)
-            ∙ ap (λ (q : Queue). with-edits (insert by-name to (queue to s ++ map (renamed to) (b ∷ B)) (insert by-name from (p ∷ q) (s .edits))) s) (sym (append-nil (kept R)))
-            ∙ ap (λ (M : Queue). with-edits (form from to d d′ p (s .edits) (kept R) (map (renamed to) M) []) s) (sym l)
-            ∙ sym (swept-is s p R e) in
+        ap (λ (G : Map ResourceId Queue). with-edits G s) (put-some to (queue to s) (renamed to b) (map (renamed to) B) E)
+        ∙ ap (λ (q : Queue). with-edits (insert by-name to (queue to s ++ map (renamed to) (b ∷ B)) (insert by-name from (p ∷ q) (s .edits))) s) (sym (append-nil (kept R)))
+        ∙ ap (λ (M : Queue). with-edits (form from to d d′ p (s .edits) (kept R) (map (renamed to) M) []) s) (sym l)
+        ∙ sym (swept-is s p R e) in
         ap (λ (q : Queue). then-start q (set-queue to (q ++ map (renamed to) (b ∷ B)) m₁)) t
         ∙ ap (then-start (queue to s)) (set-queue-is to (queue to s ++ map (renamed to) (b ∷ B)) m₁ ∙ ap (λ (x : SyncState). with-state x m) f)
 
@@ -220,14 +220,14 @@ module _ (from to : ResourceId) {w w₁ : List ℕ} {n : ℕ} (c : same-text fro
   unfolding if_then_else_
   behind-starts z D = runs.is-held (λ m. move-behind from to (queue-of from m) m)
       (λ m h. sym (behind-is from to (apart from to c) (apart′ from to c) m
-          ∙ ap (λ (b : Bool). if b then start-edit to (with-state (swept from to (m .state)) m) else ok (with-state (swept from to (m .state)) m)) (no-entries n (queue to (m .state)) (R .is (m .state) (h .keeps)) z)))
+      ∙ ap (λ (b : Bool). if b then start-edit to (with-state (swept from to (m .state)) m) else ok (with-state (swept from to (m .state)) m)) (no-entries n (queue to (m .state)) (R .is (m .state) (h .keeps)) z)))
       (runs.edit E D)
 
   pub behind-waits : {o : List ℕ} {p : Progress} → (n ≡ 0 → ⊥) → Does (λ m. move-behind from to (queue-of from m) m) w o p p w₁ o
   unfolding if_then_else_
   behind-waits z = runs.is-held (λ m. move-behind from to (queue-of from m) m)
       (λ m h. sym (behind-is from to (apart from to c) (apart′ from to c) m
-          ∙ ap (λ (b : Bool). if b then start-edit to (with-state (swept from to (m .state)) m) else ok (with-state (swept from to (m .state)) m)) (some-entries n (queue to (m .state)) (R .is (m .state) (h .keeps)) z)))
+      ∙ ap (λ (b : Bool). if b then start-edit to (with-state (swept from to (m .state)) m) else ok (with-state (swept from to (m .state)) m)) (some-entries n (queue to (m .state)) (R .is (m .state) (h .keeps)) z)))
       (runs.last-edit E)
 
 -- ---- remap

@@ -241,13 +241,7 @@ fn move_entries(work: &mut [u8], from: Name, to: Name)
     }
 }
 
-fn move_behind(
-    work: &mut [u8],
-    out: &mut [u8],
-    p: Progress,
-    from: Name,
-    to: Name,
-) -> Progress
+fn move_behind(work: &mut [u8], out: &mut [u8], p: Progress, from: Name, to: Name) -> Progress
     requires { ⌜ HasState (now work) ⌝ }
     requires { ⌜ (Named (from .bytes)) × (Named (to .bytes)) × (same-text (name-of (from .bytes)) (name-of (to .bytes)) ≡ false) ⌝ }
     ensures { λ r. ⌜ Does (λ m. move-behind (name-of (from .bytes)) (name-of (to .bytes)) (queue-of (name-of (from .bytes)) m) m) (now (work .entry)) (now (out .entry)) p r (now (work .exit)) (now (out .exit)) ⌝ }
@@ -328,13 +322,7 @@ fn plan_update_at(
     send_merged(work, out, p, name, event, theirs)
 }
 
-fn plan_update(
-    work: &mut [u8],
-    out: &mut [u8],
-    p: Progress,
-    name: Name,
-    theirs: &[u8],
-) -> Progress
+fn plan_update(work: &mut [u8], out: &mut [u8], p: Progress, name: Name, theirs: &[u8]) -> Progress
     requires { ⌜ HasState (now work) ⌝ }
     requires { ⌜ (Named (name .bytes)) × (IsEvent (now theirs)) × (HeadCase (name-of (name .bytes)) (now work) 1) ⌝ }
     ensures { λ r. ⌜ ((t : ProviderEvent) → eventF .Ok t → now (theirs .entry) ≡ eventF .enc t → Does (plan-head (name-of (name .bytes)) (some t)) (now (work .entry)) (now (out .entry)) p r (now (work .exit)) (now (out .exit))) ⌝ }
@@ -367,13 +355,7 @@ fn same_as_head(work: &[u8], name: Name, theirs: &[u8]) -> bool
     }
 }
 
-fn plan_create(
-    work: &mut [u8],
-    out: &mut [u8],
-    p: Progress,
-    name: Name,
-    theirs: &[u8],
-) -> Progress
+fn plan_create(work: &mut [u8], out: &mut [u8], p: Progress, name: Name, theirs: &[u8]) -> Progress
     requires { ⌜ HasState (now work) ⌝ }
     requires { ⌜ (Named (name .bytes)) × (IsEvent (now theirs)) × (HeadCase (name-of (name .bytes)) (now work) 0) ⌝ }
     ensures { λ r. ⌜ ((t : ProviderEvent) → eventF .Ok t → now (theirs .entry) ≡ eventF .enc t → Does (plan-head (name-of (name .bytes)) (some t)) (now (work .entry)) (now (out .entry)) p r (now (work .exit)) (now (out .exit))) ⌝ }
