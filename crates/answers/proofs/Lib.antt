@@ -1,2 +1,4 @@
 -- The answers to writes.
 pub mod Writes
+-- The answers to reads.
+pub mod Found

@@ -7,26 +7,26 @@ use mathlib.Core.Option.{Option, none, some}
 use mathlib.Core.Bool.{Bool, true, false, _||_, false≢true}
 use lib.Dec.{ltb}
 use lib.ListN.{length}
-use Rattle.format.specs.Format.{option, enum, _∣_, via}
+use Rattle.format.specs.Format.{enum, _∣_, via}
 use Rattle.model.specs.Event.{ProviderEvent}
 use Rattle.model.specs.Seam.{ResourceId, RequestId, Failure, Outcome, resource-of}
 use Rattle.model.specs.Calls.{Rejection}
 use Rattle.model.specs.Edits.{Operation}
-use Rattle.model.specs.State.{Pending, Queue, SyncState}
+use Rattle.model.specs.State.{Pending, Queue}
 use Rattle.model.specs.Maps.{if_then_else_, by-name, get, is-some, is-some-and}
 use Rattle.model.specs.Formats.{eventF, outcomeF}
-use Rattle.model.specs.Machine.{Machine, Run, ok, _>>=_, with-state, queue-of}
-use Rattle.model.specs.Sync.{is-create, is-delete, as-collided, change-front, change-head, head, head-is, doubtful, doubt, observe, observe-write, finish, remap, written, deleted, read-for-edit, read-again, write-failed, on-edit-write, describe, describe-failure}
+use Rattle.model.specs.Machine.{Machine, ok, _>>=_, with-state, queue-of}
+use Rattle.model.specs.Sync.{is-create, is-delete, as-collided, change-front, change-head, head-is, doubtful, doubt, observe, observe-write, finish, remap, written, deleted, read-for-edit, read-again, write-failed, on-edit-write, describe, describe-failure}
 use Rattle.frame.specs.Meaning.{eventAt, reasonAt, meantFailure, meantOutcome}
 use Rattle.frame.specs.declared.Outcome as outcome
 use Rattle.frame.specs.declared.Failure as failure
 use Rattle.frame.specs.declared.Outcome.the-variants as outcomes
-use Rattle.state.specs.Contract.{Keeps, HasState, Reads, Edits}
+use Rattle.state.specs.Contract.{Keeps, Reads, Edits}
 use Rattle.waiting.specs.Queues.{queue, put-queue, nth}
 use Rattle.waiting.specs.Reading.{case-of, operation-case-of}
 use Rattle.waiting.proofs.Bridge as bridge
 use Rattle.machine.specs.declared.Progress.{Progress}
-use Rattle.machine.specs.Contract.{Holds, Does, Changes}
+use Rattle.machine.specs.Contract.{Does}
 use Rattle.machine.proofs.Runs as runs
 use Rattle.records.specs.Events.{IsEvent}
 use Rattle.writes.proofs.Behind.{set-queue-is}
@@ -133,12 +133,12 @@ deletes id r d g = runs.is (deleted id r) (λ m. refl) (runs.next d g)
 
 -- ---- read_again
 
-some-first : (x : Queue) (n : ℕ) → n ≡ length x → (n ≡ 0 → ⊥) → is-some (nth 0 x) ≡ true
+pub some-first : (x : Queue) (n : ℕ) → n ≡ length x → (n ≡ 0 → ⊥) → is-some (nth 0 x) ≡ true
 unfolding is-some nth
 some-first [] n e z = absurd (z e)
 some-first (y ∷ x) n e z = refl
 
-none-first : (x : Queue) (n : ℕ) → n ≡ length x → n ≡ 0 → is-some (nth 0 x) ≡ false
+pub none-first : (x : Queue) (n : ℕ) → n ≡ length x → n ≡ 0 → is-some (nth 0 x) ≡ false
 unfolding is-some nth
 none-first [] n e z = refl
 none-first (y ∷ x) n e z = absurd (omega arith)

@@ -1,10 +1,10 @@
 -- The entries behind a head, moved one at a time, against the definition; and remap. Assumes nothing.
-use Prim.Native.Nat.{ℕ, zero, suc, _+_, _-_, _≤_, _<_, Ordering, Ordering·eq}
+use Prim.Native.Nat.{ℕ, zero, suc, _+_, _-_, _≤_, _<_, Ordering·eq}
 use native.Mathlib.Omega.{arith}
-use mathlib.Core.Path.{_≡_, refl, sym, ap, ap₂, _∙_, subst}
+use mathlib.Core.Path.{_≡_, refl, sym, ap, _∙_, subst}
 use mathlib.Core.List.{List, [], _∷_, _++_, append-nil}
 use mathlib.Core.Bool.{Bool, true, false, not, false≢true}
-use lib.Dec.{eqb, leb}
+use lib.Dec.{leb}
 use lib.ListN.{length}
 use borrow.Author.Tests.{eq-eqb, ne-eqb}
 use Rattle.model.specs.Seam.{ResourceId}
@@ -12,23 +12,23 @@ use Rattle.model.specs.Calls.{Notice, Effect}
 use Rattle.model.specs.State.{Map, Pending, Queue, SyncState, with-aliases}
 use Rattle.model.specs.Limits.{document01}
 use Rattle.model.specs.Maps.{if_then_else_, same-text, by-name, insert, map, filter, is-empty}
-use Rattle.model.specs.Machine.{Machine, Run, refused, ok, _>>=_, with-state, within, push, tell, set-aliases, queue-of, set-queue, set-edits}
-use Rattle.model.specs.Sync.{is-create, with-resource, move-to, move-behind, remap, start-edit, start-queue}
+use Rattle.model.specs.Machine.{Machine, Run, ok, with-state, within, tell, set-aliases, queue-of, set-queue, set-edits}
+use Rattle.model.specs.Sync.{is-create, move-to, move-behind, remap, start-edit, start-queue}
 use Rattle.model.proofs.Tables.{same-self, by-name-same, name-order}
 use Rattle.state.specs.Setters.{with-edits}
 use Rattle.state.specs.Contract.{Keeps, HasState, Reads, Edits, Tries}
-use Rattle.waiting.specs.Queues.{queue-in, put-in, queue, put-queue, renamed, nth, moved}
+use Rattle.waiting.specs.Queues.{put-in, queue, put-queue, renamed, nth, moved}
 use Rattle.waiting.specs.Reading.{operation-case-of}
-use Rattle.waiting.proofs.Bridge.{queue-is, put-is}
+use Rattle.waiting.proofs.Bridge.{queue-is}
 use Rattle.waiting.proofs.Splices.{rows-count}
 use Rattle.machine.specs.declared.Progress.{Progress}
-use Rattle.machine.specs.Contract.{Holds, Does, Changes, Pushes}
+use Rattle.machine.specs.Contract.{Does, Changes, Pushes}
 use Rattle.machine.specs.Steps.{tried-by}
 use Rattle.machine.proofs.Runs as runs
 use Rattle.machine.proofs.Steps as steps
 use Rattle.writes.specs.Moves.{stays-at, one-moved, place-after, MovesOne, sweep, swept}
 use Rattle.writes.proofs.Inserts.{insert-there}
-use Rattle.writes.proofs.Moves.{form, form-to, sweep-form, at-form, queue-there, queue-other, put-some}
+use Rattle.writes.proofs.Moves.{form, sweep-form, at-form, queue-there, queue-other, put-some}
 
 abbrev kept : Queue → Queue
 kept R = filter (λ q. is-create (q .edit .operation)) R

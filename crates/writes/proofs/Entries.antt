@@ -1,28 +1,27 @@
 -- The bytes of a head that updates or creates are what a merge is given. Assumes nothing.
-use Prim.Native.Nat.{ℕ, suc, _+_, _-_, _≤_}
+use Prim.Native.Nat.{ℕ, _+_, _-_, _≤_}
 use native.Mathlib.Omega.{arith}
 use mathlib.Core.Path.{_≡_, refl, sym, ap, _∙_, subst}
 use mathlib.Core.List.{List, [], _∷_, _++_, append-assoc, append-nil}
-use mathlib.Core.Option.{none, some}
-use lib.ListN.{length, take, drop, length-append, length-take, length-drop}
+use mathlib.Core.Option.{none}
+use lib.ListN.{length, take, drop, length-take, length-drop}
 use lib.Seq.{drop-drop, take-all}
 use Rattle.format.specs.Format.{Format, enum, _∣_, via, _⊗_}
 use Rattle.spans.specs.Bytes.{zeros}
 use Rattle.tables.specs.declared.Place.{Place}
 use Rattle.tables.specs.declared.Place.the-variants.{Found, Missing}
 use Rattle.model.specs.Event.{NormalizedEvent, ProviderEvent}
-use Rattle.model.specs.Parts.{Role}
 use Rattle.model.specs.Seam.{ResourceId}
 use Rattle.model.specs.Edits.{Operation}
 use Rattle.model.specs.State.{Pending, SyncState}
 use Rattle.model.specs.Formats.{operationF, fieldsF, eventF, roleF}
 use Rattle.model.proofs.FormatsLaws.{fieldsF-law}
 use Rattle.state.specs.Layout.{padded, field}
-use Rattle.state.specs.Contract.{Keeps, HasState, Reads}
+use Rattle.state.specs.Contract.{Keeps}
 use Rattle.frame.specs.Read.{skips, start}
 use Rattle.frame.specs.declared.Cursor.{Cursor}
 use Rattle.comparison.specs.Bytes.{span}
-use Rattle.merge.specs.Given.{Begins, Given}
+use Rattle.merge.specs.Given.{Begins}
 use Rattle.merge.proofs.Stood.{Stood, next-is, next-drop}
 use Rattle.waiting.specs.Queues.{queue, nth}
 use Rattle.waiting.specs.Entries.{EntryAt, SomeEntryAt, EntryIs, FindsEntry}

@@ -1,8 +1,8 @@
 -- Two inserts into a map. Assumes nothing.
 use Prim.Native.Nat.{Ordering, Ordering·lt, Ordering·eq, Ordering·gt}
 use mathlib.Core.Path.{_≡_, refl, sym, ap, ap₂, _∙_, subst}
-use mathlib.Core.List.{List, [], _∷_}
-use mathlib.Core.Option.{Option, none, some, Option·some-injective, Option·none-ne-some}
+use mathlib.Core.List.{[], _∷_}
+use mathlib.Core.Option.{none, some, Option·some-injective, Option·none-ne-some}
 use Rattle.model.specs.State.{Map}
 use Rattle.model.specs.Maps.{by, get, insert}
 use mathlib.Core.Bool.{true, false}

@@ -1,26 +1,24 @@
 -- Moving one entry at a time is the definition's filter. Assumes nothing.
-use Prim.Native.Nat.{ℕ, zero, suc, _+_, _-_, _≤_, _<_, Ordering, Ordering·eq}
-use native.Mathlib.Nat.{suc-add, zero-add}
+use Prim.Native.Nat.{ℕ, suc, _+_, Ordering·eq}
 use native.Mathlib.Omega.{arith}
-use mathlib.Core.Path.{_≡_, refl, sym, ap, ap₂, _∙_, subst}
-use mathlib.Core.List.{List, [], _∷_, _++_, append-assoc, append-nil}
+use mathlib.Core.Path.{_≡_, refl, sym, ap, ap₂, _∙_}
+use mathlib.Core.List.{[], _∷_, _++_, append-assoc, append-nil}
 use mathlib.Core.Option.{Option, none, some}
 use mathlib.Core.Bool.{Bool, true, false, not}
 use lib.Dec.{eqb}
-use lib.ListN.{length, take, drop, length-append}
+use lib.ListN.{length, length-append}
 use Rattle.model.specs.Seam.{ResourceId}
 use Rattle.model.specs.Edits.{Operation}
 use Rattle.model.specs.State.{Map, Pending, Queue, SyncState}
-use Rattle.model.specs.Maps.{if_then_else_, by-name, get, insert, map, filter, is-empty}
-use Rattle.model.specs.Machine.{match_none:_some:_, Machine, Run, ok, _>>=_, with-state, queue-of, set-queue, set-edits}
-use Rattle.model.specs.Sync.{is-create, with-resource, move-to, move-behind, start-edit, start-queue}
+use Rattle.model.specs.Maps.{if_then_else_, by-name, get, insert, map, filter}
+use Rattle.model.specs.Machine.{match_none:_some:_}
+use Rattle.model.specs.Sync.{is-create}
 use Rattle.model.proofs.Tables.{name-order, get-insert, get-insert-other}
 use Rattle.state.specs.Setters.{with-edits}
 use Rattle.waiting.specs.Queues.{queue-in, put-in, queue, put-queue, nth, without, renamed, joined, moved}
 use Rattle.waiting.specs.Reading.{case-of, operation-case-of}
-use Rattle.waiting.proofs.Bridge.{queue-is, put-is}
-use Rattle.writes.specs.Moves.{stays-at, one-moved, place-after, sweep, swept}
-use Rattle.writes.proofs.Inserts.{insert-over, insert-there, insert-swap}
+use Rattle.writes.specs.Moves.{stays-at, one-moved, place-after, sweep}
+use Rattle.writes.proofs.Inserts.{insert-over, insert-swap}
 
 -- ---- one entry of a list
 

@@ -1,39 +1,37 @@
 -- `plan` and `plan-update`, branch by branch. Assumes nothing.
 use Prim.Native.Nat.{ℕ, _+_, _≤_, _<_}
 use native.Mathlib.Omega.{arith}
-use mathlib.Core.Path.{_≡_, refl, sym, ap, ap₂, _∙_, subst}
+use mathlib.Core.Path.{_≡_, refl, sym, ap, _∙_, subst}
 use mathlib.Core.List.{List, []}
 use mathlib.Core.Option.{Option, none, some, Option·some-injective, Option·none-ne-some}
 use mathlib.Core.Bool.{Bool, true, false}
-use lib.Dec.{leb}
 use lib.ListN.{length}
 use borrow.Author.Tests.{le-leb, lt-leb}
 use Rattle.tables.specs.declared.Place.{Place}
 use Rattle.tables.specs.declared.Place.the-variants.{Found, Missing}
-use Rattle.format.specs.Format.{option}
-use Rattle.model.specs.Event.{NormalizedEvent, ProviderEvent, ProviderRevision}
+use Rattle.model.specs.Event.{NormalizedEvent, ProviderEvent}
 use Rattle.model.specs.Parts.{Role, MergeOutcome}
 use Rattle.model.specs.Seam.{ResourceId, Request, resource-of}
 use Rattle.model.specs.Calls.{Rejection}
 use Rattle.model.specs.Edits.{Operation}
 use Rattle.model.specs.Limits.{max-attendees}
-use Rattle.model.specs.State.{Pending, Queue, SyncState, Purpose}
+use Rattle.model.specs.State.{Pending, Queue, Purpose}
 use Rattle.model.specs.Maps.{if_then_else_, is-some-and}
-use Rattle.model.specs.Formats.{same, shortText, fieldsF, eventF}
+use Rattle.model.specs.Formats.{same, fieldsF, eventF}
 use Rattle.model.specs.Merge.{merge}
-use Rattle.model.specs.Machine.{Machine, Run, refused, ok, _>>=_, match_none:_some:_, with-state, request, queue-of, set-queue}
-use Rattle.model.specs.Sync.{assigns-ids, creates-under-key, head, with-plan, change-front, change-head, finish, remap, plan, plan-update}
-use Rattle.state.specs.Contract.{Keeps, HasState, Reads, Edits}
+use Rattle.model.specs.Machine.{Machine, Run, refused, ok, match_none:_some:_, with-state, request, queue-of}
+use Rattle.model.specs.Sync.{assigns-ids, creates-under-key, with-plan, change-front, change-head, finish, remap, plan, plan-update}
+use Rattle.state.specs.Contract.{HasState, Reads, Edits}
 use Rattle.records.specs.Events.{IsEvent}
 use Rattle.comparison.specs.Bytes.{span}
-use Rattle.merge.specs.Given.{Begins, Given}
+use Rattle.merge.specs.Given.{Begins}
 use Rattle.merge.proofs.Room.{event-fits}
-use Rattle.waiting.specs.Queues.{queue, put-queue, planned, nth}
+use Rattle.waiting.specs.Queues.{queue, put-queue, nth}
 use Rattle.waiting.specs.Entries.{SomeEntryAt, FindsEntry}
 use Rattle.waiting.specs.Reading.{case-of, operation-case-of}
 use Rattle.waiting.proofs.Bridge.{queue-is, head-is, plan-is}
 use Rattle.machine.specs.declared.Progress.{Progress}
-use Rattle.machine.specs.Contract.{Holds, Ran, Does}
+use Rattle.machine.specs.Contract.{Ran, Does}
 use Rattle.machine.specs.Steps.{refusal, unless}
 use Rattle.machine.proofs.Runs as runs
 use Rattle.machine.proofs.Steps as steps

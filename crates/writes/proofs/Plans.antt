@@ -1,10 +1,10 @@
 -- Planning: what a merge leaves in the head of a queue, and the parts of an event. Assumes nothing.
-use Prim.Native.Nat.{ℕ, _+_, _-_, _≤_}
+use Prim.Native.Nat.{ℕ, _-_, _≤_}
 use native.Mathlib.Omega.{arith}
-use mathlib.Core.Path.{_≡_, refl, sym, ap, ap₂, _∙_, subst}
-use mathlib.Core.List.{List, [], _∷_, _++_}
+use mathlib.Core.Path.{_≡_, ap, ap₂, _∙_}
+use mathlib.Core.List.{List, []}
 use mathlib.Core.Bool.{Bool}
-use lib.ListN.{length, take, drop, length-take}
+use lib.ListN.{length, take, length-take}
 use Rattle.format.specs.Format.{option, _⊗_}
 use Rattle.format.proofs.FormatLaws.{option-law}
 use Rattle.model.specs.Event.{NormalizedEvent, ProviderEvent}
@@ -20,14 +20,14 @@ use Rattle.model.proofs.MergesFit.{merges-fit}
 use Rattle.frame.specs.Read.{skips, start}
 use Rattle.frame.specs.declared.Cursor.{Cursor}
 use Rattle.comparison.specs.Bytes.{span}
-use Rattle.merge.specs.Given.{Begins, Given}
+use Rattle.merge.specs.Given.{Begins}
 use Rattle.merge.specs.Parts.{fieldsOf}
 use Rattle.merge.proofs.Stood.{Stood, stood-start, stood-via, stood-first, stood-second, span-is}
 use Rattle.merge.proofs.EventParts.{fields-enc}
 use Rattle.state.specs.Contract.{Edits}
 use Rattle.waiting.specs.Queues.{queue, put-queue, planned}
 use Rattle.waiting.specs.Entries.{PlanBytes}
-use Rattle.writes.specs.Plans.{operation-part, GivenAt, Filled, with-merge}
+use Rattle.writes.specs.Plans.{GivenAt, Filled, with-merge}
 
 -- ---- parts of an array
 

@@ -2,7 +2,7 @@
 use Prim.Native.Nat.{ℕ, _+_, _≤_}
 use mathlib.Core.Path.{_≡_}
 use mathlib.Core.List.{List}
-use mathlib.Core.Option.{Option, none, some}
+use mathlib.Core.Option.{Option, none}
 use lib.ListN.{length, take}
 use Rattle.model.specs.Event.{NormalizedEvent, ProviderEvent}
 use Rattle.model.specs.Parts.{Role, MergeOutcome}
