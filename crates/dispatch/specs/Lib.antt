@@ -1,0 +1,2 @@
+-- The inputs by their names.
+pub mod Inputs
