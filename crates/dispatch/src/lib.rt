@@ -98,3 +98,51 @@ fn sync(work: &mut [u8], out: &mut [u8], p: Progress) -> Progress
     }
     passes::start_pass(work, out, p)
 }
+
+fn handle(
+    work: &mut [u8],
+    out: &mut [u8],
+    p: Progress,
+    frame: &[u8],
+    input: Input,
+) -> Progress
+    requires { ⌜ HasState (now work) ⌝ }
+    requires { ⌜ inputF .Ok (meantInput (now frame) input) ⌝ }
+    ensures { λ r. ⌜ Does (handle (meantInput (now (frame .entry)) input)) (now (work .entry)) (now (out .entry)) p r (now (work .exit)) (now (out .exit)) ⌝ }
+{
+    match input {
+        Input::Sync => {
+            return sync(work, out, p);
+        }
+        Input::Edit(edit) => {
+            return queues::enqueue(work, out, p, frame, edit);
+        }
+        Input::Outcome(id, outcome) => {
+            return outcome_of(work, out, p, frame, id, outcome);
+        }
+        Input::Tick(time) => {
+            return clock::tick(work, out, p, time);
+        }
+        Input::Resume => {
+            return restarts::resume(work, out, p);
+        }
+    }
+}
+
+// SyncState::apply
+pub fn apply(
+    work: &mut [u8],
+    out: &mut [u8],
+    p: Progress,
+    frame: &[u8],
+    input: Input,
+) -> Progress
+    requires { ⌜ HasState (now work) ⌝ }
+    requires { ⌜ inputF .Ok (meantInput (now frame) input) ⌝ }
+    ensures { λ r. ⌜ Does (apply (meantInput (now (frame .entry)) input)) (now (work .entry)) (now (out .entry)) p r (now (work .exit)) (now (out .exit)) ⌝ }
+{
+    let q = handle(work, out, p, frame, input);
+    observe::forget_settled(work);
+    observe::forget_aliases(work);
+    q
+}

@@ -1,0 +1,2 @@
+-- One queue as time passes.
+pub mod Expiring
