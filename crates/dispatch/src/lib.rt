@@ -99,13 +99,7 @@ fn sync(work: &mut [u8], out: &mut [u8], p: Progress) -> Progress
     passes::start_pass(work, out, p)
 }
 
-fn handle(
-    work: &mut [u8],
-    out: &mut [u8],
-    p: Progress,
-    frame: &[u8],
-    input: Input,
-) -> Progress
+fn handle(work: &mut [u8], out: &mut [u8], p: Progress, frame: &[u8], input: Input) -> Progress
     requires { ⌜ HasState (now work) ⌝ }
     requires { ⌜ inputF .Ok (meantInput (now frame) input) ⌝ }
     ensures { λ r. ⌜ Does (handle (meantInput (now (frame .entry)) input)) (now (work .entry)) (now (out .entry)) p r (now (work .exit)) (now (out .exit)) ⌝ }
@@ -130,13 +124,7 @@ fn handle(
 }
 
 // SyncState::apply
-pub fn apply(
-    work: &mut [u8],
-    out: &mut [u8],
-    p: Progress,
-    frame: &[u8],
-    input: Input,
-) -> Progress
+pub fn apply(work: &mut [u8], out: &mut [u8], p: Progress, frame: &[u8], input: Input) -> Progress
     requires { ⌜ HasState (now work) ⌝ }
     requires { ⌜ inputF .Ok (meantInput (now frame) input) ⌝ }
     ensures { λ r. ⌜ Does (apply (meantInput (now (frame .entry)) input)) (now (work .entry)) (now (out .entry)) p r (now (work .exit)) (now (out .exit)) ⌝ }
