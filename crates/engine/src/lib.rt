@@ -1,4 +1,6 @@
 // The entry: one call of the engine on lent buffers.
+use frame::Input;
+use frame::Parsed;
 use machine::Progress;
 ghost use mathlib.Core.Path.{_≡_};
 ghost use mathlib.Core.List.{_++_};
@@ -6,8 +8,13 @@ ghost use Prim.Native.Nat.{_-_, _≤_};
 ghost use lib.ListN.{length, take};
 ghost use Rattle.spans.specs.Bytes.{zeros};
 ghost use Rattle.model.specs.Limits.{document01};
-ghost use Rattle.model.specs.Entry.{lengths-right};
-ghost use Rattle.engine.specs.Answers.{lent, answer, Ends};
+ghost use Rattle.model.specs.Formats.{inputF};
+ghost use Rattle.model.specs.Sync.{apply};
+ghost use Rattle.model.specs.Entry.{lengths-right, entry};
+ghost use Rattle.frame.specs.Meaning.{meantInput};
+ghost use Rattle.state.specs.Contract.{HasState};
+ghost use Rattle.machine.specs.Contract.{Does};
+ghost use Rattle.engine.specs.Answers.{lent, answer, fresh, Ends, Steps};
 
 pub struct Answer {
     // 0, or the refusal's number
@@ -71,4 +78,49 @@ fn ended(state: &mut [u8], work: &mut [u8], out: &mut [u8], p: Progress) -> Answ
         return refused(work, out, code);
     }
     accepted(state, work, out, at)
+}
+
+// Applies the input on the work buffer. The effects have the output up to `end`.
+fn apply_within(work: &mut [u8], out: &mut [u8], end: usize, frame: &[u8], input: Input) -> Progress
+    requires { ⌜ HasState (now work) ⌝ }
+    requires { ⌜ inputF .Ok (meantInput (now frame) input) ⌝ }
+    requires { ⌜ end ≤ length (now out) ⌝ }
+    ensures { λ r. ⌜ Does (apply (meantInput (now (frame .entry)) input)) (now (work .entry)) (take end (now (out .entry))) fresh r (now (work .exit)) (take end (now (out .exit))) ⌝ }
+{
+    let p = Progress { code: 0, at: 0 };
+    dispatch::apply(work, &mut out[..end], p, frame, input)
+}
+
+// A call past the checks.
+fn run(state: &mut [u8], work: &mut [u8], out: &mut [u8], frame: &[u8], input: Input) -> Answer
+    requires { ⌜ HasState (now state) ⌝ }
+    requires { ⌜ inputF .Ok (meantInput (now frame) input) ⌝ }
+    requires { ⌜ length (now work) ≡ 58543 ⌝ }
+    requires { ⌜ 32768 ≤ length (now out) ⌝ }
+    ensures { λ r. ⌜ Steps (meantInput (now (frame .entry)) input) (now (state .entry)) (now (work .entry)) (now (out .entry)) r (now (state .exit)) (now (work .exit)) (now (out .exit)) ⌝ }
+{
+    spans::copy_into(work, state);
+    let p = apply_within(work, out, frame::MAX_EFFECTS, frame, input);
+    ended(state, work, out, p)
+}
+
+// fn step: one call. The checks run 1, 2, 3.
+pub fn step(state: &mut [u8], work: &mut [u8], out: &mut [u8], frame: &[u8]) -> Answer
+    ensures { λ r. ⌜ answer r (now (state .exit)) (now (work .exit)) (now (out .exit)) ≡ entry document01 (lent (now (state .entry)) (now (work .entry)) (now (out .entry))) (now (frame .entry)) ⌝ }
+{
+    if !lengths_right(state, work, out) {
+        return Answer { code: 1, length: 0 };
+    }
+    if !wellformed::is_state(state) {
+        return refused(work, out, 2);
+    }
+    let parsed = frame::parse(frame);
+    match parsed {
+        Parsed::NoFrame => {
+            return refused(work, out, 3);
+        }
+        Parsed::Frame(input) => {
+            return run(state, work, out, frame, input);
+        }
+    }
 }
