@@ -3,6 +3,8 @@
 ghost use mathlib.Core.Path.{_≡_};
 ghost use mathlib.Core.Bool.{false};
 ghost use mathlib.Core.Option.{none};
+ghost use Prim.Native.Nat.{_+_, _≤_};
+ghost use lib.ListN.{length};
 ghost use Rattle.lent.specs.Lent.{part};
 ghost use Rattle.frame.specs.Read.{kept};
 ghost use Rattle.model.specs.Maps.{keys};
@@ -70,21 +72,21 @@ pub extern "C" fn bay_in_flight_at(state: &[u8], i: usize, found: &mut bool, num
     a.code
 }
 
-// The cursor's text is `length` bytes of the state, from `at`.
+// The cursor's text is `extent` bytes of the state, from `at`.
 #[no_mangle]
 pub extern "C" fn bay_cursor(
     state: &[u8],
     found: &mut bool,
     at: &mut usize,
-    length: &mut usize,
+    extent: &mut usize,
 ) -> u8
-    ensures { λ r. ⌜ Answers (λ s. s .cursor) none (now (state .entry)) r (kept (now (found .exit)) (part (now (at .exit)) (now (length .exit)) (now (state .entry)))) ⌝ }
+    ensures { λ r. ⌜ Answers (λ s. s .cursor) none (now (state .entry)) r (kept (now (found .exit)) (part (now (at .exit)) (now (extent .exit)) (now (state .entry)))) × (now (at .exit) + now (extent .exit) ≤ length (now (state .entry))) ⌝ }
 {
     let a = access::cursor(state);
     let text = a.text;
     *found = a.found;
     *at = text.at;
-    *length = text.length;
+    *extent = text.length;
     a.code
 }
 
@@ -99,7 +101,7 @@ pub extern "C" fn bay_record_at(
     event: &mut usize,
     extent: &mut usize,
 ) -> u8
-    ensures { λ r. ⌜ Answers (λ s. record-bytes (nth i (s .records))) none (now (state .entry)) r (kept (now (found .exit)) (part (now (name .exit)) (now (size .exit)) (now (state .entry)), part (now (event .exit)) (now (extent .exit)) (now (state .entry)))) ⌝ }
+    ensures { λ r. ⌜ Answers (λ s. record-bytes (nth i (s .records))) none (now (state .entry)) r (kept (now (found .exit)) (part (now (name .exit)) (now (size .exit)) (now (state .entry)), part (now (event .exit)) (now (extent .exit)) (now (state .entry)))) × (now (name .exit) + now (size .exit) ≤ length (now (state .entry))) × (now (event .exit) + now (extent .exit) ≤ length (now (state .entry))) ⌝ }
 {
     let a = access::record_at(state, i);
     let named = a.name;
