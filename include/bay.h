@@ -75,9 +75,9 @@ uint8_t bay_step(uint8_t *state, size_t state_length,
 
 /*
  * The reading functions. Each returns BAY_ACCEPTED, BAY_LENGTH or BAY_STATE, and writes nothing but its results. After a
- * refusal *count and *number are 0 and *found is false. What is found stands in the state's own bytes, as a place and a
- * length (the cursor's text is the cursor_length bytes from state + cursor_at), until the state is next written; places mean
- * nothing where *found is false.
+ * refusal *count and *number are 0 and *found is false. What is found stands in the state's own bytes, at a place and with a
+ * length that end within the state, until the state is next written: the cursor's text is the cursor_length bytes from
+ * state + cursor_at. Places mean nothing where *found is false.
  */
 
 /* How many edits wait for the resource. Bytes that are no resource's name have none waiting. */
