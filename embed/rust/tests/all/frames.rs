@@ -53,27 +53,157 @@ fn effects_stand_back_to_back() {
     assert!(Effect::decode_all(&bytes).is_err());
 }
 
-#[test]
-fn an_event_has_the_frame_of_its_fields() {
-    let mut event = ProviderEvent {
-        ids: ProviderIds::new(Provider::Ics, "é"),
-        revision: Some(ProviderRevision::new("1")),
-        mapper_version: MapperVersion::new(0x0102_0304),
-        fields: NormalizedEvent::new(EventTimes::new(5)),
-        passthrough: Passthrough::new(u64::MAX),
+// ---- the order of the fields, byte by byte
+
+fn number(low: u8) -> [u8; 8] {
+    [0, 0, 0, 0, 0, 0, 0, low]
+}
+
+/// An event with every field set, and its bytes.
+fn full_event() -> (ProviderEvent, Vec<u8>) {
+    let attendee = Attendee {
+        address: "a".into(),
+        name: Some("m".into()),
+        role: AttendeeRole::Chair,
+        participation: Participation::Tentative,
+        kind: ParticipantKind::Unknown,
     };
-    event.fields.attendees.push(Attendee::new("a"));
-    event.fields.visibility = Visibility::Confidential;
-    let expected = [
-        &[3, 2, 0xc3, 0xa9, 0, 0][..],
-        &[1, 1, b'1'],
-        &[1, 2, 3, 4],
-        &[0, 0, 0, 0, 0, 0, 0, 0, 5, 0, 0],
-        &[1, 1, b'a', 0, 0, 0, 0],
-        &[0, 0, 0, 0, 3, 0, 0, 0, 0, 0, 0, 0, 0],
-        &[255; 8],
+    let organizer = Organizer {
+        address: "o".into(),
+        name: Some("n".into()),
+    };
+    let fields = NormalizedEvent {
+        title: Some("t".into()),
+        times: EventTimes::new(1),
+        recurrence: Some(Recurrence::new(2)),
+        organizer: Some(organizer),
+        attendees: vec![attendee],
+        location: Some("é".into()),
+        description: Some(Description::new(3)),
+        status: EventStatus::Cancelled,
+        transparency: Transparency::Transparent,
+        visibility: Visibility::Confidential,
+        reminders: Reminders::new(4),
+    };
+    let event = ProviderEvent {
+        ids: ProviderIds {
+            provider: Provider::Ics,
+            id: "i".into(),
+            ical_uid: Some("u".into()),
+            series_id: Some("s".into()),
+        },
+        revision: Some(ProviderRevision::new("v")),
+        mapper_version: MapperVersion::new(0x0102_0304),
+        fields,
+        passthrough: Passthrough::new(5),
+    };
+    let parts = [
+        &b"\x03\x01i\x01\x01u\x01\x01s"[..],
+        b"\x01\x01v\x01\x02\x03\x04",
+        b"\x01\x01t",
+        &number(1),
+        &[1],
+        &number(2),
+        b"\x01\x01o\x01\x01n",
+        b"\x01\x01a\x01\x01m\x02\x03\x04",
+        b"\x01\x02\xc3\xa9",
+        &[1],
+        &number(3),
+        &[2, 1, 3],
+        &number(4),
+        &number(5),
     ];
-    assert_eq!(event.encode(), Ok(expected.concat()));
+    (event, parts.concat())
+}
+
+#[test]
+fn an_event_has_its_fields_in_order() {
+    let (event, bytes) = full_event();
+    assert_eq!(round_trip(&event), bytes);
+}
+
+#[test]
+fn an_input_has_its_fields_in_order() {
+    let update = Input::Edit(Edit {
+        id: EditId::new("e"),
+        resource: ResourceId::new("r"),
+        operation: Operation::Update {
+            base: NormalizedEvent::new(EventTimes::new(1)),
+            ours: NormalizedEvent::new(EventTimes::new(2)),
+        },
+        role: Role::Attendee {
+            address: "a".into(),
+        },
+        expires_at: Some(Timestamp::new(-2)),
+    });
+    let plain = |times| [&[0][..], &number(times), &[0; 16]].concat();
+    let parts = [
+        &b"\x01\x01e\x01r\x01"[..],
+        &plain(1),
+        &plain(2),
+        b"\x01\x01a\x01",
+        &(-2_i64).to_be_bytes(),
+    ];
+    assert_eq!(round_trip(&update), parts.concat());
+    let (event, bytes) = full_event();
+    let change = Change::Upsert {
+        resource: ResourceId::new("r"),
+        revision: ProviderRevision::new("v"),
+        event: Some(event),
+    };
+    let listed = Input::Outcome {
+        request: RequestId::new(7),
+        outcome: Outcome::Listed(Page {
+            changes: vec![change],
+            next: Next::More(Cursor::new("c")),
+        }),
+    };
+    let parts = [
+        &[2][..],
+        &number(7),
+        b"\x00\x01\x00\x01r\x01v\x01",
+        &bytes,
+        b"\x00\x01c",
+    ];
+    assert_eq!(round_trip(&listed), parts.concat());
+}
+
+#[test]
+fn an_effect_has_its_fields_in_order() {
+    let (event, bytes) = full_event();
+    let write = Effect::Request {
+        id: RequestId::new(7),
+        request: Request::Update {
+            resource: ResourceId::new("r"),
+            if_match: Some(ProviderRevision::new("v")),
+            event,
+        },
+    };
+    let parts = [&[0][..], &number(7), b"\x04\x01r\x01\x01v", &bytes];
+    assert_eq!(round_trip(&write), parts.concat());
+    let conflict = Conflict {
+        field: Field::Visibility,
+        attendee: Some("a".into()),
+        base: FieldValue::Visibility(Visibility::Public),
+        ours: FieldValue::Visibility(Visibility::Private),
+        theirs: FieldValue::Visibility(Visibility::Default),
+    };
+    let refused = Refused {
+        field: Field::Reminders,
+        attendee: Some("b".into()),
+    };
+    let applied = Effect::Notify(Notice::Applied {
+        edit: EditId::new("e"),
+        conflicts: vec![conflict],
+        refused: vec![refused],
+    });
+    let bytes = b"\x01\x02\x01e\x01\x09\x01\x01a\x09\x01\x09\x02\x09\x00\x01\x0a\x01\x01b";
+    assert_eq!(round_trip(&applied), bytes);
+    let remapped = Effect::Notify(Notice::Remapped {
+        from: ResourceId::new("f"),
+        to: ResourceId::new("t"),
+    });
+    assert_eq!(round_trip(&remapped), b"\x01\x05\x01f\x01t");
 }
 
 // ---- what fits no frame
