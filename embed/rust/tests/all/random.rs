@@ -274,23 +274,8 @@ impl Random {
     }
 
     fn field(&mut self) -> Field {
-        use Field::{
-            Attendees, Description, Location, Organizer, Recurrence, Reminders, Status, Times,
-            Title, Transparency, Visibility,
-        };
-        self.one(&[
-            Title,
-            Times,
-            Recurrence,
-            Organizer,
-            Attendees,
-            Location,
-            Description,
-            Status,
-            Transparency,
-            Visibility,
-            Reminders,
-        ])
+        let case = u8::try_from(self.below(11)).expect("a byte");
+        Field::decode(&[case]).expect("one of eleven")
     }
 
     fn field_value(&mut self) -> FieldValue {
