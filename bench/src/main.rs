@@ -57,31 +57,32 @@ fn time(best: &mut f64, work: impl FnOnce()) {
     *best = best.min(began.elapsed().as_nanos() as f64);
 }
 
-/// Nanoseconds a step: ours, the published engine's, the floor.
-fn measure(frames: &[Vec<u8>]) -> [f64; 3] {
-    let mut best = vec![[f64::MAX; 3]; frames.len().div_ceil(RUN)];
+/// Nanoseconds a step: ours, the published engine's, the floor, and a check of the state, which every reading function makes.
+fn measure(frames: &[Vec<u8>]) -> [f64; 4] {
+    let mut best = vec![[f64::MAX; 4]; frames.len().div_ceil(RUN)];
     for _ in 0..ROUNDS {
         let mut ours = Engine::fresh();
         let mut theirs = published::SyncState::new();
         let mut floor = Floor::new();
-        for (run, [a, b, c]) in frames.chunks(RUN).zip(&mut best) {
+        for (run, [a, b, c, d]) in frames.chunks(RUN).zip(&mut best) {
             time(a, || run.iter().for_each(|frame| assert!(ours.step_frame(frame).is_ok())));
             time(b, || {
                 run.iter().for_each(|frame| _ = black_box(published_step(&mut theirs, frame)));
             });
             time(c, || run.iter().for_each(|_| floor.step()));
+            time(d, || run.iter().for_each(|_| _ = black_box(ours.cursor())));
         }
     }
-    [0, 1, 2].map(|way| best.iter().map(|run| run[way]).sum::<f64>() / frames.len() as f64)
+    [0, 1, 2, 3].map(|way| best.iter().map(|run| run[way]).sum::<f64>() / frames.len() as f64)
 }
 
 fn main() {
-    println!("profile    steps   ours ns   published ns   times   floor ns   times");
+    println!("profile    steps   ours ns   published ns   times   floor ns   times   check ns");
     for path in std::env::args().skip(1) {
         let frames = accepted(&path);
-        let [ours, theirs, floor] = measure(&frames);
+        let [ours, theirs, floor, check] = measure(&frames);
         let name = Path::new(&path).file_name().expect("a file's name").to_string_lossy().into_owned();
         let (n, a, b) = (frames.len(), ours / theirs, ours / floor);
-        println!("{name:9} {n:6} {ours:9.0} {theirs:14.0} {a:7.1} {floor:10.0} {b:7.1}");
+        println!("{name:9} {n:6} {ours:9.0} {theirs:14.0} {a:7.1} {floor:10.0} {b:7.1} {check:10.0}");
     }
 }
