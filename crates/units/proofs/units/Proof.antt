@@ -27,14 +27,17 @@ unit-at-requires-3 : tie.Need-unit-at-requires-3 Inv-loop μ-loop
 unit-at-requires-3 c κs = search needs
 
 loop-holds : tie.Need-loop-holds Inv-loop μ-loop
-loop-holds c = (
-  search needs,
-  search needs,
-  c .before .before .unit-at .ensures,
-  c .before .unit-at2 .ensures,
-  c .unit-at3 .ensures,
-  laws.listed-as (pens.listed-none (c .before .before .before .before .before .before .before .args .out .now) (c .before .before .before .before .before .before .before .args .sheet .pen) (c .before .before .before .before .before .before .before .args .sheet .count)) (laws.units-none (c .before .before .before .before .before .before .before .args .which) (c .before .before .before .before .before .before .before .args .owner) (c .before .before .before .before .before .before .before .args .base .now) (c .before .before .before .before .before .before .before .args .ours .now) (c .before .before .before .before .before .before .before .args .theirs .now) (c .before .before .before .before .before .before .before .args .from) (c .before .before .before .before .before .before .before .args .from - c .before .before .before .before .before .before .before .args .from) (omega arith)),
-)
+loop-holds c =
+    let a = c .before .before .before .before .before .before .before .args in (
+      search needs,
+      search needs,
+      c .before .before .unit-at .ensures,
+      c .before .unit-at2 .ensures,
+      c .unit-at3 .ensures,
+      laws.listed-as
+          (pens.listed-none (a .out .now) (a .sheet .pen) (a .sheet .count))
+          (laws.units-none (a .which) (a .owner) (a .base .now) (a .ours .now) (a .theirs .now) (a .from) (a .from - a .from) (omega arith)),
+    )
 
 add-next : tie.Need-add-next Inv-loop μ-loop
 add-next c = search needs
@@ -68,24 +71,34 @@ loop-less c = search needs
 
 loop-again : tie.Need-loop-again Inv-loop μ-loop
 loop-again c =
-    let t : c .before .before .before .before .before .before .before .before .before .before .before .before .loop .k < c .before .before .before .before .before .before .before .before .before .before .before .before .before .before .before .before .before .before .before .before .args .to = c .before .before .before .before .before .before .before .before .before .before .before .loop-test .taken in
-    let low : c .before .before .before .before .before .before .before .before .before .before .before .before .before .before .before .before .before .before .before .before .args .from ≤ c .before .before .before .before .before .before .before .before .before .before .before .before .loop .k + 1 = omega (arith, c .before .before .before .before .before .before .before .before .before .before .before .before .loop .inv .0) in
-    let high : c .before .before .before .before .before .before .before .before .before .before .before .before .loop .k + 1 - c .before .before .before .before .before .before .before .before .before .before .before .before .before .before .before .before .before .before .before .before .args .from ≤ c .before .before .before .before .before .before .before .before .before .before .before .before .before .before .before .before .before .before .before .before .args .to - c .before .before .before .before .before .before .before .before .before .before .before .before .before .before .before .before .before .before .before .before .args .from = omega (arith, c .before .before .before .before .before .before .before .before .before .before .before .before .loop .inv .0, t) in (
-  low,
-  high,
-  laws.at-next (c .before .before .before .before .before .before .before .before .before .before .before .before .before .before .before .before .before .before .before .before .args .base .now) (c .before .before .before .before .before .before .before .before .before .before .before .before .loop .k) _ _ (c .before .before .before .before .before .before .before .before .before .before .before .before .loop .inv .2) (c .before .before .before .before .before .before .before .before .before .skip-unit .ensures),
-  laws.at-next (c .before .before .before .before .before .before .before .before .before .before .before .before .before .before .before .before .before .before .before .before .args .ours .now) (c .before .before .before .before .before .before .before .before .before .before .before .before .loop .k) _ _ (c .before .before .before .before .before .before .before .before .before .before .before .before .loop .inv .3) (c .before .before .before .before .before .before .before .before .skip-unit2 .ensures),
-  laws.at-next (c .before .before .before .before .before .before .before .before .before .before .before .before .before .before .before .before .before .before .before .before .args .theirs .now) (c .before .before .before .before .before .before .before .before .before .before .before .before .loop .k) _ _ (c .before .before .before .before .before .before .before .before .before .before .before .before .loop .inv .4) (c .before .before .before .before .before .before .before .skip-unit3 .ensures),
-  laws.listed-as (pens.listed-then (c .before .before .before .before .before .before .before .before .before .before .before .before .loop .inv .5) (c .before .before .unit .ensures)) (laws.units-more (c .before .before .before .before .before .before .before .before .before .before .before .before .before .before .before .before .before .before .before .before .args .which) (c .before .before .before .before .before .before .before .before .before .before .before .before .before .before .before .before .before .before .before .before .args .owner) (c .before .before .before .before .before .before .before .before .before .before .before .before .before .before .before .before .before .before .before .before .args .base .now) (c .before .before .before .before .before .before .before .before .before .before .before .before .before .before .before .before .before .before .before .before .args .ours .now) (c .before .before .before .before .before .before .before .before .before .before .before .before .before .before .before .before .before .before .before .before .args .theirs .now) (c .before .before .before .before .before .before .before .before .before .before .before .before .before .before .before .before .before .before .before .before .args .from) (c .before .before .before .before .before .before .before .before .before .before .before .before .loop .k) (c .before .before .before .before .before .before .before .before .before .before .before .before .loop .inv .0) _ _ _ _ (laws.part-of-unit (c .before .before .before .before .before .before .before .before .before .before .before .before .before .before .before .before .before .before .before .before .args .base .now) (c .before .before .before .before .before .before .before .before .before .before .before .before .loop .k) _ _ _ (c .before .before .before .before .before .before .before .before .before .before .before .before .loop .inv .2) (c .before .before .before .before .before .before .before .before .before .skip-unit .ensures) (c .before .before .before .before .before .part .ensures)) (laws.part-of-unit (c .before .before .before .before .before .before .before .before .before .before .before .before .before .before .before .before .before .before .before .before .args .ours .now) (c .before .before .before .before .before .before .before .before .before .before .before .before .loop .k) _ _ _ (c .before .before .before .before .before .before .before .before .before .before .before .before .loop .inv .3) (c .before .before .before .before .before .before .before .before .skip-unit2 .ensures) (c .before .before .before .before .part2 .ensures)) (laws.part-of-unit (c .before .before .before .before .before .before .before .before .before .before .before .before .before .before .before .before .before .before .before .before .args .theirs .now) (c .before .before .before .before .before .before .before .before .before .before .before .before .loop .k) _ _ _ (c .before .before .before .before .before .before .before .before .before .before .before .before .loop .inv .4) (c .before .before .before .before .before .before .before .skip-unit3 .ensures) (c .before .before .before .part3 .ensures)) (c .before .before .before .before .before .before .before .before .before .before .owned-unit .ensures)),
-)
+    let a = c .before .before .before .before .before .before .before .before .before .before .before .before .before .before .before .before .before .before .before .before .args in
+    let l = c .before .before .before .before .before .before .before .before .before .before .before .before .loop in
+    let t : l .k < a .to = c .before .before .before .before .before .before .before .before .before .before .before .loop-test .taken in
+    let low : a .from ≤ l .k + 1 = omega (arith, l .inv .0) in
+    let high : l .k + 1 - a .from ≤ a .to - a .from = omega (arith, l .inv .0, t) in (
+      low,
+      high,
+      laws.at-next (a .base .now) (l .k) _ _ (l .inv .2) (c .before .before .before .before .before .before .before .before .before .skip-unit .ensures),
+      laws.at-next (a .ours .now) (l .k) _ _ (l .inv .3) (c .before .before .before .before .before .before .before .before .skip-unit2 .ensures),
+      laws.at-next (a .theirs .now) (l .k) _ _ (l .inv .4) (c .before .before .before .before .before .before .before .skip-unit3 .ensures),
+      laws.listed-as
+          (pens.listed-then (l .inv .5) (c .before .before .unit .ensures))
+          (laws.units-more (a .which) (a .owner) (a .base .now) (a .ours .now) (a .theirs .now) (a .from) (l .k) (l .inv .0) _ _ _ _
+          (laws.part-of-unit (a .base .now) (l .k) _ _ _ (l .inv .2) (c .before .before .before .before .before .before .before .before .before .skip-unit .ensures) (c .before .before .before .before .before .part .ensures))
+          (laws.part-of-unit (a .ours .now) (l .k) _ _ _ (l .inv .3) (c .before .before .before .before .before .before .before .before .skip-unit2 .ensures) (c .before .before .before .before .part2 .ensures))
+          (laws.part-of-unit (a .theirs .now) (l .k) _ _ _ (l .inv .4) (c .before .before .before .before .before .before .before .skip-unit3 .ensures) (c .before .before .before .part3 .ensures))
+          (c .before .before .before .before .before .before .before .before .before .before .owned-unit .ensures)),
+    )
 
 same-length : tie.Need-same-length Inv-loop μ-loop
 same-length c = search needs
 
 returns : tie.Need-returns Inv-loop μ-loop
 returns c =
-    let e : c .before .loop .k - c .before .before .before .before .before .before .before .before .before .args .from ≡ c .before .before .before .before .before .before .before .before .before .args .to - c .before .before .before .before .before .before .before .before .before .args .from = omega (arith, c .before .loop .inv .0, c .before .loop .inv .1, c .loop-test .left) in
-    laws.listed-as (c .before .loop .inv .5) (ap (unitsItems (c .before .before .before .before .before .before .before .before .before .args .which) (c .before .before .before .before .before .before .before .before .before .args .owner) (c .before .before .before .before .before .before .before .before .before .args .base .now) (c .before .before .before .before .before .before .before .before .before .args .ours .now) (c .before .before .before .before .before .before .before .before .before .args .theirs .now) (c .before .before .before .before .before .before .before .before .before .args .from)) e)
+    let a = c .before .before .before .before .before .before .before .before .before .args in
+    let l = c .before .loop in
+    let e : l .k - a .from ≡ a .to - a .from = omega (arith, l .inv .0, l .inv .1, c .loop-test .left) in
+    laws.listed-as (l .inv .5) (ap (unitsItems (a .which) (a .owner) (a .base .now) (a .ours .now) (a .theirs .now) (a .from)) e)
 
 pub units-spec : {M : Type 1} → statement M
 units-spec =
