@@ -1,0 +1,54 @@
+// Calls of the engine, and what they answer.
+use pens::Pen;
+use printing::number;
+use printing::say;
+use spans::Order;
+
+pub struct Call {
+    // 0, or the refusal's number
+    pub code: u8,
+    // whether the state's bytes are what they were
+    pub kept: bool,
+}
+
+fn same(a: &[u8], b: &[u8]) -> bool {
+    let o = spans::compare(a, b);
+    match o {
+        Order::Less => false,
+        Order::Equal => true,
+        Order::Greater => false,
+    }
+}
+
+// One step.
+pub fn call(state: &mut [u8; 58543], frame: &[u8]) -> Call {
+    let mut before = [0u8; 58543];
+    let mut work = [0u8; 58543];
+    let mut out = [0u8; 32768];
+    spans::copy_into(&mut before, state);
+    let answer = engine::step(state, &mut work, &mut out, frame);
+    Call {
+        code: answer.code,
+        kept: same(&before, state),
+    }
+}
+
+// One step with the frame that was written.
+pub fn send(state: &mut [u8; 58543], frame: &[u8], pen: Pen) -> Call {
+    let end = pen.at;
+    if frame.len() < end {
+        return Call {
+            code: 255,
+            kept: false,
+        };
+    }
+    call(state, &frame[0..end])
+}
+
+// Prints the answer's number, and of a refusal whether the state was kept.
+pub fn answered(label: &[u8], c: Call) {
+    number(label, c.code as usize);
+    if c.code != 0 {
+        say(b", state kept", c.kept);
+    }
+}
