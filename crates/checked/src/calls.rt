@@ -4,7 +4,7 @@ use printing::number;
 use printing::say;
 use spans::Order;
 
-pub struct Call {
+pub struct Answer {
     // 0, or the refusal's number
     pub code: u8,
     // whether the state's bytes are what they were
@@ -21,23 +21,23 @@ fn same(a: &[u8], b: &[u8]) -> bool {
 }
 
 // One step.
-pub fn call(state: &mut [u8; 58543], frame: &[u8]) -> Call {
+pub fn call(state: &mut [u8; 58543], frame: &[u8]) -> Answer {
     let mut before = [0u8; 58543];
     let mut work = [0u8; 58543];
     let mut out = [0u8; 32768];
     spans::copy_into(&mut before, state);
     let answer = engine::step(state, &mut work, &mut out, frame);
-    Call {
+    Answer {
         code: answer.code,
         kept: same(&before, state),
     }
 }
 
 // One step with the frame that was written.
-pub fn send(state: &mut [u8; 58543], frame: &[u8], pen: Pen) -> Call {
+pub fn send(state: &mut [u8; 58543], frame: &[u8], pen: Pen) -> Answer {
     let end = pen.at;
     if frame.len() < end {
-        return Call {
+        return Answer {
             code: 255,
             kept: false,
         };
@@ -46,7 +46,7 @@ pub fn send(state: &mut [u8; 58543], frame: &[u8], pen: Pen) -> Call {
 }
 
 // Prints the answer's number, and of a refusal whether the state was kept.
-pub fn answered(label: &[u8], c: Call) {
+pub fn answered(label: &[u8], c: Answer) {
     number(label, c.code as usize);
     if c.code != 0 {
         say(b", state kept", c.kept);

@@ -1,6 +1,6 @@
 // Steps that put one entry more into a table. In the i-th round resources are named by the i-th letter from "A" on, and request numbers
 // are those that the rounds before lead to.
-use crate::calls::Call;
+use crate::calls::Answer;
 use crate::calls::send;
 use crate::frames::create;
 use crate::frames::cursor_expired;
@@ -38,7 +38,7 @@ fn letter(i: u8) -> u8
 }
 
 // A created event is written.
-fn record(state: &mut [u8; 58543], i: u8) -> Call
+fn record(state: &mut [u8; 58543], i: u8) -> Answer
     requires { ⌜ i < 40 ⌝ }
 {
     let mut frame = [0u8; 64];
@@ -52,7 +52,7 @@ fn record(state: &mut [u8; 58543], i: u8) -> Call
 }
 
 // A page lists a removal.
-fn staged(state: &mut [u8; 58543], i: u8) -> Call
+fn staged(state: &mut [u8; 58543], i: u8) -> Answer
     requires { ⌜ i < 40 ⌝ }
 {
     let mut frame = [0u8; 64];
@@ -70,7 +70,7 @@ fn listing(i: u8) -> u8
 }
 
 // A page lists a change without its event; the read finds one and the same event each time, so that nothing stays staged.
-fn seen(state: &mut [u8; 58543], i: u8) -> Call
+fn seen(state: &mut [u8; 58543], i: u8) -> Answer
     requires { ⌜ i < 40 ⌝ }
 {
     let mut frame = [0u8; 64];
@@ -84,7 +84,7 @@ fn seen(state: &mut [u8; 58543], i: u8) -> Call
 }
 
 // A delete finds nothing.
-fn observed(state: &mut [u8; 58543], i: u8) -> Call
+fn observed(state: &mut [u8; 58543], i: u8) -> Answer
     requires { ⌜ i < 40 ⌝ }
 {
     let mut frame = [0u8; 64];
@@ -97,7 +97,7 @@ fn observed(state: &mut [u8; 58543], i: u8) -> Call
     send(state, &frame, reply)
 }
 
-fn waiting(state: &mut [u8; 58543], i: u8) -> Call
+fn waiting(state: &mut [u8; 58543], i: u8) -> Answer
     requires { ⌜ i < 40 ⌝ }
 {
     let mut frame = [0u8; 64];
@@ -106,7 +106,7 @@ fn waiting(state: &mut [u8; 58543], i: u8) -> Call
 }
 
 // An update goes on from where the last one ended.
-fn absorbed(state: &mut [u8; 58543], i: u8) -> Call
+fn absorbed(state: &mut [u8; 58543], i: u8) -> Answer
     requires { ⌜ i < 40 ⌝ }
 {
     let mut frame = [0u8; 64];
@@ -115,7 +115,7 @@ fn absorbed(state: &mut [u8; 58543], i: u8) -> Call
 }
 
 // A full pass overtakes the write before.
-fn overtake(state: &mut [u8; 58543], list: u8) -> Call
+fn overtake(state: &mut [u8; 58543], list: u8) -> Answer
     requires { ⌜ list < 200 ⌝ }
 {
     let mut frame = [0u8; 64];
@@ -130,25 +130,47 @@ fn overtake(state: &mut [u8; 58543], list: u8) -> Call
     send(state, &frame, page)
 }
 
-// The write of the round before, overtaken, is read again; a create is written beside it.
-fn in_flight(state: &mut [u8; 58543], i: u8) -> Call
+// The write of the round before, overtaken, is read again.
+fn reread(state: &mut [u8; 58543], i: u8) -> Answer
+    requires { ⌜ 0 < i ⌝ }
     requires { ⌜ i < 40 ⌝ }
 {
-    let mut frame = [0u8; 64];
-    if 0 < i {
-        let synced = overtake(state, 4 * i - 2);
-        if synced.code != 0 {
-            return synced;
-        }
-        let reply = written(&mut frame, 4 * i - 3, letter(i - 1));
-        send(state, &frame, reply);
+    let synced = overtake(state, 4 * i - 2);
+    if synced.code != 0 {
+        return synced;
     }
+    let mut frame = [0u8; 64];
+    let reply = written(&mut frame, 4 * i - 3, letter(i - 1));
+    send(state, &frame, reply)
+}
+
+fn previous(state: &mut [u8; 58543], i: u8) -> Answer
+    requires { ⌜ i < 40 ⌝ }
+{
+    if i == 0 {
+        return Answer {
+            code: 0,
+            kept: true,
+        };
+    }
+    reread(state, i)
+}
+
+// A created event is being written, beside what the rounds before left.
+fn in_flight(state: &mut [u8; 58543], i: u8) -> Answer
+    requires { ⌜ i < 40 ⌝ }
+{
+    let before = previous(state, i);
+    if before.code != 0 {
+        return before;
+    }
+    let mut frame = [0u8; 64];
     let edit = create(&mut frame, letter(i), GOOGLE);
     send(state, &frame, edit)
 }
 
 // A created event is found under a name of the provider's.
-fn alias(state: &mut [u8; 58543], i: u8) -> Call
+fn alias(state: &mut [u8; 58543], i: u8) -> Answer
     requires { ⌜ i < 40 ⌝ }
 {
     let mut frame = [0u8; 64];
@@ -162,7 +184,7 @@ fn alias(state: &mut [u8; 58543], i: u8) -> Call
 }
 
 // The last answer of a round, or the first that refuses.
-pub fn round(table: Table, state: &mut [u8; 58543], i: u8) -> Call
+pub fn round(table: Table, state: &mut [u8; 58543], i: u8) -> Answer
     requires { ⌜ i < 40 ⌝ }
 {
     match table {

@@ -1,5 +1,5 @@
 // The nine tables of document 01's last heading: how many entries a fresh state takes, and what one more gives.
-use crate::calls::Call;
+use crate::calls::Answer;
 use crate::calls::answered;
 use crate::calls::send;
 use crate::fill::Table;
@@ -17,12 +17,12 @@ const ROUNDS: u8 = 40;
 
 struct Filled {
     count: u8,
-    last: Call,
+    last: Answer,
 }
 
 // Rounds up to the first refusal.
 fn fill(table: Table, state: &mut [u8; 58543]) -> Filled {
-    let mut last = Call {
+    let mut last = Answer {
         code: 0,
         kept: true,
     };

@@ -7,6 +7,7 @@ use crate::frames::zeros;
 use printing::end;
 use printing::number;
 use printing::show;
+ghost use Prim.Native.Nat.{_<_};
 
 const TEXT: u8 = 32;
 
@@ -24,7 +25,9 @@ fn with_text(n: u8, case: u8, before: usize, mark: &[u8], after: usize) {
     answered(b" bytes:", send(&mut state, &frame, pen));
 }
 
-fn around(label: &[u8], limit: u8, case: u8, before: usize, mark: &[u8], after: usize) {
+fn around(label: &[u8], limit: u8, case: u8, before: usize, mark: &[u8], after: usize)
+    requires { ⌜ limit < 255 ⌝ }
+{
     show(label);
     with_text(limit, case, before, mark, after);
     show(b";");
@@ -38,7 +41,9 @@ fn in_edit(label: &[u8], before: usize, mark: &[u8], after: usize) {
 }
 
 // A place in a reply to request 0, whose outcome's case is the mark's first byte.
-fn in_reply(label: &[u8], limit: u8, mark: &[u8], after: usize) {
+fn in_reply(label: &[u8], limit: u8, mark: &[u8], after: usize)
+    requires { ⌜ limit < 255 ⌝ }
+{
     around(label, limit, 2, 8, mark, after);
 }
 
