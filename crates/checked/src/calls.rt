@@ -21,10 +21,10 @@ fn same(a: &[u8], b: &[u8]) -> bool {
 }
 
 // One step.
-pub fn call(state: &mut [u8; 58543], frame: &[u8]) -> Answer {
-    let mut before = [0u8; 58543];
-    let mut work = [0u8; 58543];
-    let mut out = [0u8; 32768];
+pub fn call(state: &mut [u8; engine::STATE], frame: &[u8]) -> Answer {
+    let mut before = [0u8; engine::STATE];
+    let mut work = [0u8; engine::STATE];
+    let mut out = [0u8; frame::MAX_EFFECTS];
     spans::copy_into(&mut before, state);
     let answer = engine::step(state, &mut work, &mut out, frame);
     Answer {
@@ -34,7 +34,7 @@ pub fn call(state: &mut [u8; 58543], frame: &[u8]) -> Answer {
 }
 
 // One step with the frame that was written.
-pub fn send(state: &mut [u8; 58543], frame: &[u8], pen: Pen) -> Answer {
+pub fn send(state: &mut [u8; engine::STATE], frame: &[u8], pen: Pen) -> Answer {
     let end = pen.at;
     if frame.len() < end {
         return Answer {

@@ -38,7 +38,7 @@ fn letter(i: u8) -> u8
 }
 
 // A created event is written.
-fn record(state: &mut [u8; 58543], i: u8) -> Answer
+fn record(state: &mut [u8; engine::STATE], i: u8) -> Answer
     requires { ⌜ i < 40 ⌝ }
 {
     let mut frame = [0u8; 64];
@@ -52,7 +52,7 @@ fn record(state: &mut [u8; 58543], i: u8) -> Answer
 }
 
 // A page lists a removal.
-fn staged(state: &mut [u8; 58543], i: u8) -> Answer
+fn staged(state: &mut [u8; engine::STATE], i: u8) -> Answer
     requires { ⌜ i < 40 ⌝ }
 {
     let mut frame = [0u8; 64];
@@ -70,7 +70,7 @@ fn listing(i: u8) -> u8
 }
 
 // A page lists a change without its event; the read finds one and the same event each time, so that nothing stays staged.
-fn seen(state: &mut [u8; 58543], i: u8) -> Answer
+fn seen(state: &mut [u8; engine::STATE], i: u8) -> Answer
     requires { ⌜ i < 40 ⌝ }
 {
     let mut frame = [0u8; 64];
@@ -84,7 +84,7 @@ fn seen(state: &mut [u8; 58543], i: u8) -> Answer
 }
 
 // A delete finds nothing.
-fn observed(state: &mut [u8; 58543], i: u8) -> Answer
+fn observed(state: &mut [u8; engine::STATE], i: u8) -> Answer
     requires { ⌜ i < 40 ⌝ }
 {
     let mut frame = [0u8; 64];
@@ -97,7 +97,7 @@ fn observed(state: &mut [u8; 58543], i: u8) -> Answer
     send(state, &frame, reply)
 }
 
-fn waiting(state: &mut [u8; 58543], i: u8) -> Answer
+fn waiting(state: &mut [u8; engine::STATE], i: u8) -> Answer
     requires { ⌜ i < 40 ⌝ }
 {
     let mut frame = [0u8; 64];
@@ -106,7 +106,7 @@ fn waiting(state: &mut [u8; 58543], i: u8) -> Answer
 }
 
 // An update goes on from where the last one ended.
-fn absorbed(state: &mut [u8; 58543], i: u8) -> Answer
+fn absorbed(state: &mut [u8; engine::STATE], i: u8) -> Answer
     requires { ⌜ i < 40 ⌝ }
 {
     let mut frame = [0u8; 64];
@@ -115,7 +115,7 @@ fn absorbed(state: &mut [u8; 58543], i: u8) -> Answer
 }
 
 // A full pass overtakes the write before.
-fn overtake(state: &mut [u8; 58543], list: u8) -> Answer
+fn overtake(state: &mut [u8; engine::STATE], list: u8) -> Answer
     requires { ⌜ list < 200 ⌝ }
 {
     let mut frame = [0u8; 64];
@@ -131,7 +131,7 @@ fn overtake(state: &mut [u8; 58543], list: u8) -> Answer
 }
 
 // The write of the round before, overtaken, is read again.
-fn reread(state: &mut [u8; 58543], i: u8) -> Answer
+fn reread(state: &mut [u8; engine::STATE], i: u8) -> Answer
     requires { ⌜ 0 < i ⌝ }
     requires { ⌜ i < 40 ⌝ }
 {
@@ -144,7 +144,7 @@ fn reread(state: &mut [u8; 58543], i: u8) -> Answer
     send(state, &frame, reply)
 }
 
-fn previous(state: &mut [u8; 58543], i: u8) -> Answer
+fn previous(state: &mut [u8; engine::STATE], i: u8) -> Answer
     requires { ⌜ i < 40 ⌝ }
 {
     if i == 0 {
@@ -157,7 +157,7 @@ fn previous(state: &mut [u8; 58543], i: u8) -> Answer
 }
 
 // A created event is being written, beside what the rounds before left.
-fn in_flight(state: &mut [u8; 58543], i: u8) -> Answer
+fn in_flight(state: &mut [u8; engine::STATE], i: u8) -> Answer
     requires { ⌜ i < 40 ⌝ }
 {
     let before = previous(state, i);
@@ -170,7 +170,7 @@ fn in_flight(state: &mut [u8; 58543], i: u8) -> Answer
 }
 
 // A created event is found under a name of the provider's.
-fn alias(state: &mut [u8; 58543], i: u8) -> Answer
+fn alias(state: &mut [u8; engine::STATE], i: u8) -> Answer
     requires { ⌜ i < 40 ⌝ }
 {
     let mut frame = [0u8; 64];
@@ -184,7 +184,7 @@ fn alias(state: &mut [u8; 58543], i: u8) -> Answer
 }
 
 // The last answer of a round, or the first that refuses.
-pub fn round(table: Table, state: &mut [u8; 58543], i: u8) -> Answer
+pub fn round(table: Table, state: &mut [u8; engine::STATE], i: u8) -> Answer
     requires { ⌜ i < 40 ⌝ }
 {
     match table {

@@ -21,7 +21,7 @@ struct Filled {
 }
 
 // Rounds up to the first refusal.
-fn fill(table: Table, state: &mut [u8; 58543]) -> Filled {
+fn fill(table: Table, state: &mut [u8; engine::STATE]) -> Filled {
     let mut last = Answer {
         code: 0,
         kept: true,
@@ -37,7 +37,7 @@ fn fill(table: Table, state: &mut [u8; 58543]) -> Filled {
     Filled { count: i, last }
 }
 
-fn report(label: &[u8], table: Table, state: &mut [u8; 58543]) {
+fn report(label: &[u8], table: Table, state: &mut [u8; engine::STATE]) {
     let filled = fill(table, state);
     show(label);
     number(b":", filled.count as usize);
@@ -46,13 +46,13 @@ fn report(label: &[u8], table: Table, state: &mut [u8; 58543]) {
 }
 
 fn from_fresh(label: &[u8], table: Table) {
-    let mut state = [0u8; 58543];
+    let mut state = [0u8; engine::STATE];
     report(label, table, &mut state);
 }
 
 // With an open pass.
 fn in_pass(label: &[u8], table: Table) {
-    let mut state = [0u8; 58543];
+    let mut state = [0u8; engine::STATE];
     let mut frame = [0u8; 64];
     let pen = sync(&mut frame);
     send(&mut state, &frame, pen);
@@ -61,7 +61,7 @@ fn in_pass(label: &[u8], table: Table) {
 
 // Behind a head, an update that others fold into.
 fn absorbed() {
-    let mut state = [0u8; 58543];
+    let mut state = [0u8; engine::STATE];
     let mut frame = [0u8; 64];
     let head = update(&mut frame, 100, 101);
     send(&mut state, &frame, head);
@@ -72,7 +72,7 @@ fn absorbed() {
 
 // With a cursor, so that a later pass can expire.
 fn in_flight() {
-    let mut state = [0u8; 58543];
+    let mut state = [0u8; engine::STATE];
     let mut frame = [0u8; 64];
     let start = sync(&mut frame);
     send(&mut state, &frame, start);
@@ -83,7 +83,7 @@ fn in_flight() {
 
 // Beside a read that is never answered, so that nothing learned is forgotten.
 fn learned() {
-    let mut state = [0u8; 58543];
+    let mut state = [0u8; engine::STATE];
     let mut frame = [0u8; 64];
     let slow = delete(&mut frame, b'z');
     send(&mut state, &frame, slow);

@@ -9,7 +9,7 @@ use printing::show;
 
 // The answer to a frame that starts with a case, so many zeros and a count; zeros follow.
 fn with_count(n: u8, case: u8, before: usize, after: usize) {
-    let mut state = [0u8; 58543];
+    let mut state = [0u8; engine::STATE];
     let mut frame = [0u8; 192];
     let start = first().byte(&mut frame, case);
     let count = zeros(start, &mut frame, before).byte(&mut frame, n);
@@ -34,7 +34,7 @@ pub fn counts() {
 
 // The answers to a tick at the time with these bits, and to a delete that expires then.
 fn time(label: &[u8], bits: u64) {
-    let mut state = [0u8; 58543];
+    let mut state = [0u8; engine::STATE];
     let mut frame = [0u8; 64];
     let tick = first().byte(&mut frame, 3).number(&mut frame, bits);
     show(label);

@@ -15,7 +15,7 @@ const REASON: u8 = 64;
 
 // The answer to a frame that starts with a case, so many zeros and a mark; a text of n letters and so many zeros follow.
 fn with_text(n: u8, case: u8, before: usize, mark: &[u8], after: usize) {
-    let mut state = [0u8; 58543];
+    let mut state = [0u8; engine::STATE];
     let mut frame = [0u8; 192];
     let start = first().byte(&mut frame, case);
     let marked = zeros(start, &mut frame, before).part(&mut frame, mark);

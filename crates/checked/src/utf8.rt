@@ -6,7 +6,7 @@ use printing::end;
 
 // The answer to a delete whose id is these bytes.
 fn id(label: &[u8], bytes: &[u8]) {
-    let mut state = [0u8; 58543];
+    let mut state = [0u8; engine::STATE];
     let mut frame = [0u8; 64];
     if 32 < bytes.len() {
         return;

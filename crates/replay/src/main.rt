@@ -7,26 +7,21 @@
 mod tally;
 
 use tally::Tally;
+ghost use mathlib.Core.Path.{_≡_};
+ghost use Prim.Native.Nat.{_≤_};
+ghost use lib.ListN.{length};
 
 const RUN: u8 = b'#';
 
 const FRAME: u8 = b'>';
 
-// The place after a line that ends at `end`.
-fn next_line(list: &[u8], end: usize) -> usize {
-    if end < list.len() {
-        return end + 1;
-    }
-    end
-}
-
 // Handles a line of the list.
 fn one(
-    state: &mut [u8; 58543],
-    work: &mut [u8; 58543],
-    out: &mut [u8; 32768],
-    frame: &mut [u8; 8192],
-    text: &mut [u8; 98311],
+    state: &mut [u8; engine::STATE],
+    work: &mut [u8; engine::STATE],
+    out: &mut [u8; frame::MAX_EFFECTS],
+    frame: &mut [u8; lines::MAX_FRAME],
+    text: &mut [u8; program::TEXT],
     line: &[u8],
     t: Tally,
 ) -> Tally {
@@ -45,12 +40,14 @@ fn one(
     t.asked(end)
 }
 
-fn replay(list: &[u8]) {
-    let mut state = [0u8; 58543];
-    let mut work = [0u8; 58543];
-    let mut out = [0u8; 32768];
-    let mut frame = [0u8; 8192];
-    let mut text = [0u8; 98311];
+fn replay(list: &[u8])
+    requires { ⌜ length (now list) ≤ 1048576 ⌝ }
+{
+    let mut state = [0u8; engine::STATE];
+    let mut work = [0u8; engine::STATE];
+    let mut out = [0u8; frame::MAX_EFFECTS];
+    let mut frame = [0u8; lines::MAX_FRAME];
+    let mut text = [0u8; program::TEXT];
     let mut t = Tally::new();
     let mut from = 0;
     while from < list.len() {
@@ -64,13 +61,20 @@ fn replay(list: &[u8]) {
             &list[from..end],
             t,
         );
-        from = next_line(list, end);
+        from = end + 1;
     }
     t.ended();
 }
 
+// Room for the list.
+fn room() -> [u8; 1048576]
+    ensures { λ r. ⌜ 1048576 ≡ length r ⌝ }
+{
+    [0; 1048576]
+}
+
 fn main() {
-    let mut space = [0u8; 1048576];
+    let mut space = room();
     let n = io::read_full(0, &mut space);
     replay(&space[..n]);
 }
