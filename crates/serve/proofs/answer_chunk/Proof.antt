@@ -1,0 +1,94 @@
+use lib.ListN.{length}
+use Prim.Native.Nat.{_≤_, _-_}
+use mathlib.Core.Path.{_≡_}
+use native.Mathlib.Omega.{arith}
+use borrow.Author.Needs.{needs}
+use Rattle.serve.proofs.answer_chunk.Statement.{statement}
+use Rattle.serve.proofs.answer_chunk.Tie as tie
+
+abbrev Inv-loop : tie.InvT-loop
+Inv-loop state₀ work₀ out₀ frame₀ line₀ text₀ chunk have place₀ state work out frame line text place =
+    (length state ≡ length state₀) × (length work ≡ length work₀) × (length out ≡ length out₀) × (length frame ≡ length frame₀)
+    × (length line ≡ length line₀) × (length text ≡ length text₀) × (place .have ≤ length line₀)
+
+abbrev μ-loop : tie.MeasureT-loop
+μ-loop state₀ work₀ out₀ frame₀ line₀ text₀ chunk have place₀ state work out frame line text place = length chunk - place .at
+
+loop-holds : tie.Need-loop-holds Inv-loop μ-loop
+loop-holds c = search needs
+
+same-length : tie.Need-same-length Inv-loop μ-loop
+same-length c = search needs
+
+same-length-2 : tie.Need-same-length-2 Inv-loop μ-loop
+same-length-2 c = search needs
+
+same-length-3 : tie.Need-same-length-3 Inv-loop μ-loop
+same-length-3 c = search needs
+
+same-length-4 : tie.Need-same-length-4 Inv-loop μ-loop
+same-length-4 c = search needs
+
+same-length-5 : tie.Need-same-length-5 Inv-loop μ-loop
+same-length-5 c = search needs
+
+same-length-6 : tie.Need-same-length-6 Inv-loop μ-loop
+same-length-6 c = search needs
+
+returns : tie.Need-returns Inv-loop μ-loop
+returns c = search needs
+
+next-line-requires : tie.Need-next-line-requires Inv-loop μ-loop
+next-line-requires c κs = search needs
+
+loop-less : tie.Need-loop-less Inv-loop μ-loop
+loop-less c = search needs
+
+loop-again : tie.Need-loop-again Inv-loop μ-loop
+loop-again c = search needs
+
+same-length-7 : tie.Need-same-length-7 Inv-loop μ-loop
+same-length-7 c = search needs
+
+same-length-8 : tie.Need-same-length-8 Inv-loop μ-loop
+same-length-8 c = search needs
+
+same-length-9 : tie.Need-same-length-9 Inv-loop μ-loop
+same-length-9 c = search needs
+
+same-length-10 : tie.Need-same-length-10 Inv-loop μ-loop
+same-length-10 c = search needs
+
+same-length-11 : tie.Need-same-length-11 Inv-loop μ-loop
+same-length-11 c = search needs
+
+same-length-12 : tie.Need-same-length-12 Inv-loop μ-loop
+same-length-12 c = search needs
+
+returns-2 : tie.Need-returns-2 Inv-loop μ-loop
+returns-2 c = search needs
+
+pub answer-chunk-spec : {M : Type 1} → statement M
+answer-chunk-spec =
+    tie.close
+    (tie.spec
+    Inv-loop
+    μ-loop
+    loop-holds
+    same-length
+    same-length-2
+    same-length-3
+    same-length-4
+    same-length-5
+    same-length-6
+    returns
+    next-line-requires
+    loop-less
+    loop-again
+    same-length-7
+    same-length-8
+    same-length-9
+    same-length-10
+    same-length-11
+    same-length-12
+    returns-2)
