@@ -6,10 +6,10 @@ use crate::frames::page;
 use crate::frames::reply;
 use crate::frames::starts;
 use crate::frames::text;
-use crate::print::end;
-use crate::print::number;
-use crate::print::say;
 use pens::Pen;
+use printing::end;
+use printing::number;
+use printing::say;
 ghost use Prim.Native.Nat.{_≤_};
 
 const MAX_FRAME: usize = 4096;

@@ -7,10 +7,10 @@ use crate::frames::reply;
 use crate::frames::text;
 use crate::frames::times_of;
 use crate::frames::written;
-use crate::print::end;
-use crate::print::say;
-use crate::print::show;
 use pens::Pen;
+use printing::end;
+use printing::say;
+use printing::show;
 
 // Document 01's sample, and what is left over.
 pub fn samples() {

@@ -3,7 +3,6 @@
 mod damage;
 mod frames;
 mod limits;
-mod print;
 mod told;
 mod utf8;
 

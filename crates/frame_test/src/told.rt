@@ -1,13 +1,13 @@
 // The effects: each is written, and ends where the walk over it ends.
 use crate::frames::event;
 use crate::frames::first;
-use crate::print::end;
-use crate::print::say;
-use crate::print::show;
 use effects::Refusal;
 use frame::Failure;
 use frame::Outcome;
 use pens::Pen;
+use printing::end;
+use printing::say;
+use printing::show;
 
 // Whether the effect that was written is one, from first byte to last.
 fn walked(label: &[u8], pen: Pen, out: &[u8]) {

@@ -1,6 +1,6 @@
 // RFC 3629: its examples (section 7), and bytes that it excludes (sections 3, 4 and 10).
-use crate::print::end;
-use crate::print::say;
+use printing::end;
+use printing::say;
 
 fn text() {
     say(

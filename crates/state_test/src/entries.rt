@@ -5,8 +5,8 @@ use crate::bytes::is_state;
 use crate::bytes::put;
 use crate::bytes::repeat;
 use crate::bytes::with_byte;
-use crate::print::end;
-use crate::print::say;
+use printing::end;
+use printing::say;
 
 fn with(label: &[u8], at: usize, b: u8) {
     let mut state = [0u8; 58543];

@@ -7,9 +7,9 @@ use crate::bytes::is_state;
 use crate::bytes::plus;
 use crate::bytes::put;
 use crate::bytes::with_byte;
-use crate::print::end;
-use crate::print::number;
-use crate::print::say;
+use printing::end;
+use printing::number;
+use printing::say;
 
 // A count of one less leaves the last entry behind the table.
 fn counts(open: u8, at: usize, stride: usize, n: u8) {

@@ -1,9 +1,9 @@
 // The length, and a fresh state.
 use crate::bytes::is_state;
 use crate::bytes::refusal;
-use crate::print::end;
-use crate::print::number;
-use crate::print::say;
+use printing::end;
+use printing::number;
+use printing::say;
 
 fn code(label: &[u8], code: u8) {
     number(label, code as usize);

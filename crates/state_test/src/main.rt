@@ -5,7 +5,6 @@ mod entries;
 mod full;
 mod lengths;
 mod padding;
-mod print;
 mod reading;
 mod values;
 

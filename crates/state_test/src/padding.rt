@@ -1,8 +1,8 @@
 // A byte that is not zero where nothing stands.
 use crate::bytes::put;
 use crate::bytes::with_byte;
-use crate::print::end;
-use crate::print::say;
+use printing::end;
+use printing::say;
 
 fn fresh_with(label: &[u8], at: usize) {
     let mut state = [0u8; 58543];

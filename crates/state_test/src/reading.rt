@@ -2,11 +2,11 @@
 use crate::bytes::build;
 use crate::bytes::plus;
 use crate::bytes::put;
-use crate::print::end;
-use crate::print::number;
-use crate::print::say;
-use crate::print::show;
 use access::Part;
+use printing::end;
+use printing::number;
+use printing::say;
+use printing::show;
 
 // The refusal where there is one, else the count.
 fn count(label: &[u8], state: &[u8], resource: &[u8]) {

@@ -1,4 +1,4 @@
-// What the program prints: labels with an answer behind each, some to a line.
+// What test programs print: labels with an answer behind each, some to a line.
 use libc::STDOUT_FILENO;
 
 pub fn show(bytes: &[u8]) {

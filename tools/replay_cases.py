@@ -1,0 +1,91 @@
+#!/usr/bin/env python3
+"""Writes the list that the program `replay` runs, and what it must print: replay_cases.py JUDGE SEEDS STEPS TIMES FOLDER
+
+JUDGE is the program that compare/build makes. Of the runs of STEPS frames with the seeds 1 to SEEDS in each of its six profiles, from a
+fresh state, it takes runs, each cut after a frame, until each of the judge's listed situations (`judge reach`) is reached in
+TIMES of them, or in as many as there are: each time the start of a run that reaches most of what is wanted for its bytes. FOLDER/stdin gets the frames
+with the judge's answers (crates/replay/src/main.rt says in what form), FOLDER/stdout a line for each run.
+"""
+import subprocess, sys
+
+START = 2000    # what another run costs, beside its bytes: few long runs tell more than many short ones
+
+class Run:
+    """The frames of one seed and profile, the judge's answers, and the situations that they reach."""
+    def __init__(self, judge, profile, seed, steps):
+        self.name = "%s %d" % (profile, seed)
+        gen = subprocess.run([judge, "gen", "--seed", str(seed), "--steps", str(steps), "--profile", profile], capture_output=True, check=True)
+        self.frames = gen.stdout.split(b"\n")[:-1]
+        out = subprocess.run([judge, "run"], input=gen.stdout, capture_output=True, check=True).stdout.split(b"\n")
+        self.answers, at = [], 0
+        for _ in self.frames:
+            end = at + 1 + int(out[at][2:6], 16)
+            self.answers.append(out[at:end])
+            at = end
+        self.taken = 0                 # how many frames of it are in the list
+        self.first = []                # (frame, situation), in the frames' order
+        self.bytes = [0]               # how much of the list the first n frames take
+        for frame, answer in zip(self.frames, self.answers):
+            self.bytes.append(self.bytes[-1] + len(frame) + 2 + sum(len(line) + 1 for line in answer))
+
+    def best(self, wanted):
+        """The most wanted situations for a byte that more frames of the run reach, and up to which frame."""
+        found, best = 0, (0, 0)
+        cost = START if self.taken == 0 else -self.bytes[self.taken]
+        for frame, situation in self.first:
+            if self.taken < frame and wanted[situation]:
+                found += 1
+                best = max(best, (found / (cost + self.bytes[frame]), frame))
+        return best
+
+def reach(judge, seeds, steps):
+    lines = subprocess.run([judge, "reach", "--seed", "1..%d" % seeds, "--steps", str(steps)], capture_output=True, text=True).stdout
+    runs, missed = {}, []
+    for line in lines.splitlines():
+        if line.startswith("- "):
+            missed.append(line[2:])
+            continue
+        profile, seed, frame, situation = line.split(" ", 3)
+        if (profile, seed) not in runs:
+            runs[profile, seed] = Run(judge, profile, int(seed), steps)
+        runs[profile, seed].first.append((int(frame), situation))
+    for run in runs.values():
+        run.first.sort()
+    return list(runs.values()), missed
+
+def choose(runs, times):
+    """Takes frames of the runs."""
+    wanted = {}
+    for run in runs:
+        for _, situation in run.first:
+            wanted[situation] = min(times, wanted.get(situation, 0) + 1)
+    while any(wanted.values()):
+        run = max(runs, key=lambda r: r.best(wanted))
+        frames = run.best(wanted)[1]
+        for frame, situation in run.first:
+            if run.taken < frame <= frames and wanted[situation]:
+                wanted[situation] -= 1
+        run.taken = frames
+    return [run for run in runs if run.taken]
+
+def main():
+    judge, seeds, steps, times, folder = sys.argv[1], int(sys.argv[2]), int(sys.argv[3]), int(sys.argv[4]), sys.argv[5]
+    runs, missed = reach(judge, seeds, steps)
+    chosen = choose(runs, times)
+    total = sum(run.taken for run in chosen)
+    with open(folder + "/stdin", "wb") as out:
+        for run in chosen:
+            out.write(b"#" + run.name.encode() + b"\n")
+            for frame, answer in list(zip(run.frames, run.answers))[:run.taken]:
+                out.write(b">" + frame + b"\n" + b"".join(line + b"\n" for line in answer))
+        size = out.tell()
+    with open(folder + "/stdout", "w") as out:
+        for run in chosen:
+            out.write("%s: %d frames, 0 differences\n" % (run.name, run.taken))
+        out.write("all: %d runs, %d frames, 0 differences\n" % (len(chosen), total))
+    situations = {s for run in runs for _, s in run.first}
+    print(len(chosen), "runs,", total, "frames,", size, "bytes;", len(situations), "situations; never reached:", missed or "none")
+    for profile in ["mixed", "queues", "passes", "merges", "limits", "damage"]:
+        print(profile, sum(run.taken for run in chosen if run.name.startswith(profile)), "frames")
+
+main()
