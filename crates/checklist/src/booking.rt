@@ -28,14 +28,21 @@ pub fn revision(pen: Pen, out: &mut [u8], b: Booking) -> Pen {
 }
 
 pub fn fields(pen: Pen, out: &mut [u8], b: Booking) -> Pen {
-    let title = pen.part(out, b"\x01\x07pellets");
-    let haulier = title
-        .number(out, b.times)
-        .part(out, b"\0\0\x01\x0chaulier@road\0\0");
-    let load = haulier
+    load(answer(times(pen, out, b), out, b), out, b)
+}
+
+fn times(pen: Pen, out: &mut [u8], b: Booking) -> Pen {
+    pen.part(out, b"\x01\x07pellets").number(out, b.times)
+}
+
+fn answer(pen: Pen, out: &mut [u8], b: Booking) -> Pen {
+    pen.part(out, b"\0\0\x01\x0chaulier@road\0\0")
         .byte(out, b.answer)
-        .part(out, b"\0\x01\x05bay 1\x01");
-    load.number(out, b.load)
+}
+
+fn load(pen: Pen, out: &mut [u8], b: Booking) -> Pen {
+    pen.part(out, b"\0\x01\x05bay 1\x01")
+        .number(out, b.load)
         .part(out, b"\0\0\0\0\0\0\0\0\0\0\0")
 }
 

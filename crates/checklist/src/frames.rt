@@ -15,6 +15,10 @@ pub fn tick(pen: Pen, out: &mut [u8], now: u64) -> Pen {
     pen.byte(out, 3).number(out, now)
 }
 
+fn asked(pen: Pen, out: &mut [u8], id: &[u8]) -> Pen {
+    pen.byte(out, 1).part(out, id).part(out, b"\x05bay 1\x01")
+}
+
 fn role(pen: Pen, out: &mut [u8], terms: Terms) -> Pen {
     if terms.by_haulier {
         return pen.part(out, b"\x01\x0chaulier@road");
@@ -38,8 +42,7 @@ pub fn update(
     ours: Booking,
     terms: Terms,
 ) -> Pen {
-    let what = pen.byte(out, 1).part(out, id).part(out, b"\x05bay 1\x01");
-    let changed = fields(fields(what, out, base), out, ours);
+    let changed = fields(fields(asked(pen, out, id), out, base), out, ours);
     expiry(role(changed, out, terms), out, terms)
 }
 
@@ -47,10 +50,14 @@ fn answered(pen: Pen, out: &mut [u8], request: u64) -> Pen {
     pen.byte(out, 2).number(out, request)
 }
 
+fn upsert(pen: Pen, out: &mut [u8], b: Booking) -> Pen {
+    let resource = pen.part(out, b"\0\x01\0\x05bay 1");
+    revision(resource, out, b).byte(out, 1)
+}
+
 // A page that lists "bay 1" and ends the pass. The cursor comes with its length before it.
 pub fn listed(pen: Pen, out: &mut [u8], request: u64, b: Booking, cursor: &[u8]) -> Pen {
-    let page = answered(pen, out, request).part(out, b"\0\x01\0\x05bay 1");
-    let listing = revision(page, out, b).byte(out, 1);
+    let listing = upsert(answered(pen, out, request), out, b);
     event(listing, out, b).byte(out, 1).part(out, cursor)
 }
 

@@ -39,8 +39,8 @@ pub fn fault(pen: Pen, text: &mut [u8], line: &[u8]) -> Pen {
     if at < line.len() {
         return no_digit(pen, text, at, line[at]);
     }
-    let counted = words::decimal(pen, text, at as u64);
-    counted.part(text, b" digits, an odd number: half a byte is missing")
+    let odd = pen.part(text, b"an odd number of digits, ");
+    words::decimal(odd, text, at as u64)
 }
 
 fn no_digit(pen: Pen, text: &mut [u8], at: usize, c: u8) -> Pen {

@@ -70,6 +70,12 @@ impl Words {
         words.begin(out, b"done at ").short_text(out, s, b"cursor")
     }
 
+    fn page(self, out: &mut [u8], s: &[u8]) -> Words {
+        self.begin(out, b"listed ")
+            .changes(out, s)
+            .next_page(out, s)
+    }
+
     fn failure(self, out: &mut [u8], s: &[u8]) -> Words {
         let case = self.case(out, s, b"failure", 5);
         let words = case.words;
@@ -91,10 +97,7 @@ impl Words {
         let words = case.words;
         let k = case.value;
         match k {
-            0 => words
-                .begin(out, b"listed ")
-                .changes(out, s)
-                .next_page(out, s),
+            0 => words.page(out, s),
             1 => words.begin(out, b"read ").option_event(out, s),
             2 => words.begin(out, b"written ").event(out, s),
             3 => words.item(out, b"deleted"),

@@ -35,14 +35,17 @@ impl Words {
             1 => words
                 .item(out, b"told ListingFailed")
                 .text(out, s, b"reason", MAX_REASON),
-            2 => words
-                .told(out, s, b"told Applied")
-                .conflicts(out, s)
-                .refusals(out, s),
+            2 => words.applied(out, s),
             3 => words.told(out, s, b"told Rejected").rejection(out, s),
             4 => words.told(out, s, b"told Expired"),
             _ => words.remapped(out, s),
         }
+    }
+
+    fn applied(self, out: &mut [u8], s: &[u8]) -> Words {
+        self.told(out, s, b"told Applied")
+            .conflicts(out, s)
+            .refusals(out, s)
     }
 
     fn remapped(self, out: &mut [u8], s: &[u8]) -> Words {

@@ -11,11 +11,17 @@ use frame::U64;
 use pens::Pen;
 ghost use Prim.Native.Nat.{_≤_};
 
+// What stands before the writing place: an item has a comma before the next one.
+pub enum Last {
+    Nothing,
+    Words,
+    Item,
+}
+
 pub struct Words {
     pub place: Cursor,
     pub pen: Pen,
-    // whether an item ends here, so that a comma comes before the next
-    pub ended: bool,
+    pub last: Last,
 }
 
 // A byte at the front of a value, and the words that follow.
@@ -26,14 +32,18 @@ pub struct Chosen {
 
 // The words from the front of the bytes on.
 pub fn start(pen: Pen) -> Words {
-    open(Cursor { at: 0, ok: true }, pen)
+    Words {
+        place: Cursor { at: 0, ok: true },
+        pen,
+        last: Last::Nothing,
+    }
 }
 
 fn open(place: Cursor, pen: Pen) -> Words {
     Words {
         place,
         pen,
-        ended: false,
+        last: Last::Words,
     }
 }
 
@@ -41,13 +51,8 @@ fn ended(place: Cursor, pen: Pen) -> Words {
     Words {
         place,
         pen,
-        ended: true,
+        last: Last::Item,
     }
-}
-
-// What stands before a value.
-fn name(pen: Pen, out: &mut [u8], what: &[u8]) -> Pen {
-    pen.part(out, what).byte(out, b' ')
 }
 
 // Words
@@ -55,10 +60,23 @@ impl Words {
     // Where an item is written: behind the comma that is due.
     fn next_item(self, out: &mut [u8]) -> Pen {
         let pen = self.pen;
-        if self.ended {
-            return pen.part(out, b", ");
+        let last = self.last;
+        match last {
+            Last::Nothing => pen,
+            Last::Words => pen,
+            Last::Item => pen.part(out, b", "),
         }
-        pen
+    }
+
+    // Where it is written why the reading stops.
+    fn stop(self, out: &mut [u8]) -> Pen {
+        let pen = self.pen;
+        let last = self.last;
+        match last {
+            Last::Nothing => pen,
+            Last::Words => pen.part(out, b"... "),
+            Last::Item => pen.part(out, b" ... "),
+        }
     }
 
     // The first words of an item.
@@ -96,6 +114,12 @@ impl Words {
 
 // Values, each an item
 impl Words {
+    // What stands before a value.
+    fn name(self, out: &mut [u8], what: &[u8]) -> Pen {
+        let item = self.next_item(out);
+        item.part(out, what).byte(out, b' ')
+    }
+
     // A text, behind its name.
     pub fn text(self, out: &mut [u8], s: &[u8], what: &[u8], limit: usize) -> Words {
         let place = self.place;
@@ -103,12 +127,12 @@ impl Words {
         if !place.ok {
             return self;
         }
-        let item = self.next_item(out);
         let next = place.text(s, limit);
         if !next.ok {
-            return ended(next, stops::text(item, out, s, at, what, limit));
+            let stop = self.stop(out);
+            return ended(next, stops::text(stop, out, s, at, what, limit));
         }
-        let named = name(item, out, what);
+        let named = self.name(out, what);
         ended(next, quoted(named, out, frame::text_at(s, at, limit)))
     }
 
@@ -121,13 +145,13 @@ impl Words {
         if !place.ok {
             return self;
         }
-        let item = self.next_item(out);
         let read = place.number(s, w);
         let next = read.next;
         if !next.ok {
-            return ended(next, stops::number(item, out, s, at, what));
+            let stop = self.stop(out);
+            return ended(next, stops::number(stop, out, s, at, what));
         }
-        let named = name(item, out, what);
+        let named = self.name(out, what);
         ended(next, decimal(named, out, read.value))
     }
 
@@ -141,14 +165,14 @@ impl Words {
         if !place.ok {
             return self;
         }
-        let item = self.next_item(out);
         let read = place.stamp(s);
         let next = read.next;
         if !next.ok {
-            return ended(next, stops::time(item, out, s, place));
+            let stop = self.stop(out);
+            return ended(next, stops::time(stop, out, s, place));
         }
         let bits = place.number(s, U64);
-        let named = name(item, out, words);
+        let named = self.name(out, words);
         ended(next, signed(named, out, bits.value))
     }
 }
@@ -162,19 +186,20 @@ impl Words {
         let read = place.count(s, most);
         let next = read.next;
         let value = read.value;
+        let last = self.last;
         if next.ok {
             let words = Words {
                 place: next,
                 pen,
-                ended: self.ended,
+                last,
             };
             return Chosen { value, words };
         }
         if !place.ok {
             return Chosen { value, words: self };
         }
-        let item = self.next_item(out);
-        let words = ended(next, stops::byte(item, out, s, place.at, says, what, most));
+        let stop = self.stop(out);
+        let words = ended(next, stops::byte(stop, out, s, place.at, says, what, most));
         Chosen { value, words }
     }
 
@@ -229,7 +254,7 @@ impl Words {
         if s.len() <= at {
             return pen;
         }
-        let item = self.next_item(out);
-        stops::left_over(item, out, at, s.len() - at)
+        let stop = self.stop(out);
+        stops::left_over(stop, out, at, s.len() - at)
     }
 }

@@ -43,12 +43,15 @@ impl Words {
             1 => words.resource(out, s, b"read "),
             2 => words.begin(out, b"look up ").text(out, s, b"key", MAX_ID),
             3 => words.resource(out, s, b"create ").event(out, s),
-            4 => words
-                .resource(out, s, b"update ")
-                .if_match(out, s)
-                .event(out, s),
+            4 => words.update(out, s),
             _ => words.resource(out, s, b"delete ").if_match(out, s),
         }
+    }
+
+    fn update(self, out: &mut [u8], s: &[u8]) -> Words {
+        self.resource(out, s, b"update ")
+            .if_match(out, s)
+            .event(out, s)
     }
 
     // A request, behind its number.

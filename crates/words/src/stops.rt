@@ -103,10 +103,8 @@ pub fn byte(
             return count(named.part(out, b" has the case "), out, n);
         }
         Says::Option => {
-            let named = place
-                .part(out, b"0 or 1 says whether there is a ")
-                .part(out, what);
-            return count(named.part(out, b", not "), out, n);
+            let named = count(place, out, n).part(out, b", where 0 for no ");
+            return named.part(out, what).part(out, b" or 1 is expected");
         }
         Says::Count => {
             let named = count(place, out, n).byte(out, b' ').part(out, what);

@@ -16,21 +16,26 @@ pub fn signed(pen: Pen, out: &mut [u8], bits: u64) -> Pen {
     decimal(minus, out, 0xffff_ffff_ffff_ffff - bits + 1)
 }
 
-// A text in quotes.
+// Bytes in quotes: text as it is, but for what would break a line.
 pub fn quoted(pen: Pen, out: &mut [u8], bytes: &[u8]) -> Pen {
     let open = pen.byte(out, b'"');
     let close = escaped(open, out, bytes);
     close.byte(out, b'"')
 }
 
-// How far a text is shown: the place after what was, and how many of the next bytes are shown by their numbers.
+// How far bytes are shown: whether they are text, the place after what was shown, and how many of the next ones are shown by their numbers.
 struct Shown {
+    text: bool,
     pen: Pen,
     by_number: usize,
 }
 
 fn escaped(pen: Pen, out: &mut [u8], bytes: &[u8]) -> Pen {
-    let mut shown = Shown { pen, by_number: 0 };
+    let mut shown = Shown {
+        text: format::is_text(bytes),
+        pen,
+        by_number: 0,
+    };
     let mut i = 0;
     while i < bytes.len() {
         shown = show(shown, out, &bytes[i..]);
@@ -39,32 +44,37 @@ fn escaped(pen: Pen, out: &mut [u8], bytes: &[u8]) -> Pen {
     shown.pen
 }
 
-// The first byte of the rest of a text.
+// The first byte of the rest.
 fn show(shown: Shown, out: &mut [u8], rest: &[u8]) -> Shown {
     let pen = shown.pen;
-    let left = hidden(shown.by_number, rest);
-    if rest.len() == 0 {
-        return shown;
-    }
-    let b = rest[0];
+    let b = byte_at(rest, 0);
+    let left = hidden(shown, rest);
     if left == 0 {
         return Shown {
+            text: shown.text,
             pen: pen.byte(out, b),
             by_number: 0,
         };
     }
     Shown {
+        text: shown.text,
         pen: number_of(pen, out, b),
         by_number: left - 1,
     }
 }
 
-// How many bytes from here on are shown by their numbers, where so many of a character begun before are left.
-fn hidden(left: usize, rest: &[u8]) -> usize {
-    if 0 < left {
-        return left;
+// How many bytes from here on are shown by their numbers.
+fn hidden(shown: Shown, rest: &[u8]) -> usize {
+    if 0 < shown.by_number {
+        return shown.by_number;
     }
-    unprinted(rest)
+    if shown.text {
+        return unprinted(rest);
+    }
+    if byte_at(rest, 0) < 0x80 {
+        return unprinted(rest);
+    }
+    1
 }
 
 // How many bytes the character at the front takes where it is not to be printed as it is: a control character, a line break, a quote or a
@@ -74,22 +84,14 @@ fn unprinted(rest: &[u8]) -> usize {
     if b < 0x20 {
         return 1;
     }
-    if b == 0x7f {
-        return 1;
+    match b {
+        b'"' => 1,
+        b'\\' => 1,
+        0x7f => 1,
+        0xc2 => unprinted_latin(rest),
+        0xe2 => unprinted_separator(rest),
+        _ => 0,
     }
-    if b == b'"' {
-        return 1;
-    }
-    if b == b'\\' {
-        return 1;
-    }
-    if b == 0xc2 {
-        return unprinted_latin(rest);
-    }
-    if b == 0xe2 {
-        return unprinted_separator(rest);
-    }
-    0
 }
 
 // U+0080 to U+009F.

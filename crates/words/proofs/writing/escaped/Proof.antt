@@ -11,6 +11,9 @@ Inv-loop out₀ bytes shown₀ i₀ out shown i = (i ≤ length bytes) × (lengt
 abbrev μ-loop : tie.MeasureT-loop
 μ-loop out₀ bytes shown₀ i₀ out shown i = length bytes - i
 
+is-text-requires : tie.Need-is-text-requires Inv-loop μ-loop
+is-text-requires c κs = search needs
+
 loop-holds : tie.Need-loop-holds Inv-loop μ-loop
 loop-holds c = search needs
 
@@ -47,6 +50,7 @@ escaped-spec =
     (tie.spec
     Inv-loop
     μ-loop
+    is-text-requires
     loop-holds
     sub-show
     part-show-start
