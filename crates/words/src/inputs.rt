@@ -76,6 +76,15 @@ impl Words {
             .next_page(out, s)
     }
 
+    fn found(self, out: &mut [u8], s: &[u8]) -> Words {
+        let some = self.option(out, s, b"event");
+        let words = some.words;
+        if some.value == 0 {
+            return words.item(out, b"read nothing");
+        }
+        words.begin(out, b"read ").event(out, s)
+    }
+
     fn failure(self, out: &mut [u8], s: &[u8]) -> Words {
         let case = self.case(out, s, b"failure", 5);
         let words = case.words;
@@ -98,7 +107,7 @@ impl Words {
         let k = case.value;
         match k {
             0 => words.page(out, s),
-            1 => words.begin(out, b"read ").option_event(out, s),
+            1 => words.found(out, s),
             2 => words.begin(out, b"written ").event(out, s),
             3 => words.item(out, b"deleted"),
             _ => words.begin(out, b"failed with ").failure(out, s),
