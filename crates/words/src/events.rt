@@ -1,0 +1,202 @@
+// event.rs and provider.rs in words.
+use crate::places::Words;
+use frame::MAX_ATTENDEES;
+use frame::MAX_ID;
+use frame::MAX_TEXT;
+use frame::U32;
+
+// Enums whose cases hold nothing
+impl Words {
+    pub fn provider(self, out: &mut [u8], s: &[u8]) -> Words {
+        let case = self.case(out, s, b"provider", 3);
+        let words = case.words;
+        let k = case.value;
+        match k {
+            0 => words.item(out, b"Google"),
+            1 => words.item(out, b"Graph"),
+            2 => words.item(out, b"CalDav"),
+            _ => words.item(out, b"Ics"),
+        }
+    }
+
+    pub fn status(self, out: &mut [u8], s: &[u8]) -> Words {
+        let case = self.case(out, s, b"status", 2);
+        let words = case.words;
+        let k = case.value;
+        match k {
+            0 => words.item(out, b"status Confirmed"),
+            1 => words.item(out, b"status Tentative"),
+            _ => words.item(out, b"status Cancelled"),
+        }
+    }
+
+    pub fn transparency(self, out: &mut [u8], s: &[u8]) -> Words {
+        let case = self.case(out, s, b"transparency", 1);
+        let words = case.words;
+        let k = case.value;
+        match k {
+            0 => words.item(out, b"transparency Opaque"),
+            _ => words.item(out, b"transparency Transparent"),
+        }
+    }
+
+    pub fn visibility(self, out: &mut [u8], s: &[u8]) -> Words {
+        let case = self.case(out, s, b"visibility", 3);
+        let words = case.words;
+        let k = case.value;
+        match k {
+            0 => words.item(out, b"visibility Default"),
+            1 => words.item(out, b"visibility Public"),
+            2 => words.item(out, b"visibility Private"),
+            _ => words.item(out, b"visibility Confidential"),
+        }
+    }
+
+    fn attendee_role(self, out: &mut [u8], s: &[u8]) -> Words {
+        let case = self.case(out, s, b"attendee role", 3);
+        let words = case.words;
+        let k = case.value;
+        match k {
+            0 => words.item(out, b"Required"),
+            1 => words.item(out, b"Optional"),
+            2 => words.item(out, b"Chair"),
+            _ => words.item(out, b"NonParticipant"),
+        }
+    }
+
+    fn participation(self, out: &mut [u8], s: &[u8]) -> Words {
+        let case = self.case(out, s, b"participation", 4);
+        let words = case.words;
+        let k = case.value;
+        match k {
+            0 => words.item(out, b"NeedsAction"),
+            1 => words.item(out, b"Accepted"),
+            2 => words.item(out, b"Declined"),
+            3 => words.item(out, b"Tentative"),
+            _ => words.item(out, b"Delegated"),
+        }
+    }
+
+    fn kind(self, out: &mut [u8], s: &[u8]) -> Words {
+        let case = self.case(out, s, b"participant kind", 4);
+        let words = case.words;
+        let k = case.value;
+        match k {
+            0 => words.item(out, b"Individual"),
+            1 => words.item(out, b"Group"),
+            2 => words.item(out, b"Resource"),
+            3 => words.item(out, b"Room"),
+            _ => words.item(out, b"Unknown"),
+        }
+    }
+}
+
+// An event's fields
+impl Words {
+    // Any text but an id or a reason.
+    pub fn short_text(self, out: &mut [u8], s: &[u8], what: &[u8]) -> Words {
+        self.text(out, s, what, MAX_TEXT)
+    }
+
+    pub fn option_short_text(self, out: &mut [u8], s: &[u8], what: &[u8]) -> Words {
+        self.option_text(out, s, what, MAX_TEXT)
+    }
+
+    pub fn option_organizer(self, out: &mut [u8], s: &[u8]) -> Words {
+        let some = self.option(out, s, b"organizer");
+        let words = some.words;
+        if some.value == 0 {
+            return words.item(out, b"no organizer");
+        }
+        words.organizer(out, s)
+    }
+
+    fn organizer(self, out: &mut [u8], s: &[u8]) -> Words {
+        self.short_text(out, s, b"organizer")
+            .say(out, b" [")
+            .option_short_text(out, s, b"name")
+            .close(out)
+    }
+
+    pub fn attendee(self, out: &mut [u8], s: &[u8]) -> Words {
+        self.short_text(out, s, b"attendee")
+            .say(out, b" [")
+            .reply(out, s)
+            .close(out)
+    }
+
+    // An attendee's entry behind the address.
+    fn reply(self, out: &mut [u8], s: &[u8]) -> Words {
+        self.option_short_text(out, s, b"name")
+            .attendee_role(out, s)
+            .participation(out, s)
+            .kind(out, s)
+    }
+
+    fn attendees(self, out: &mut [u8], s: &[u8]) -> Words {
+        let count = self.count(out, s, b"attendees", MAX_ATTENDEES);
+        let mut words = count.words;
+        let n = count.value;
+        if n == 0 {
+            return words.item(out, b"no attendees");
+        }
+        let mut i: u8 = 0;
+        while i < n {
+            words = words.attendee(out, s);
+            i += 1;
+        }
+        words
+    }
+
+    pub fn fields(self, out: &mut [u8], s: &[u8]) -> Words {
+        self.subject(out, s).people(out, s).state(out, s)
+    }
+
+    fn subject(self, out: &mut [u8], s: &[u8]) -> Words {
+        self.option_short_text(out, s, b"title")
+            .tag(out, s, b"times")
+            .option_tag(out, s, b"recurrence")
+    }
+
+    fn people(self, out: &mut [u8], s: &[u8]) -> Words {
+        self.option_organizer(out, s)
+            .attendees(out, s)
+            .option_short_text(out, s, b"location")
+            .option_tag(out, s, b"description")
+    }
+
+    fn state(self, out: &mut [u8], s: &[u8]) -> Words {
+        self.status(out, s)
+            .transparency(out, s)
+            .visibility(out, s)
+            .tag(out, s, b"reminders")
+    }
+
+    // A provider's event.
+    pub fn event(self, out: &mut [u8], s: &[u8]) -> Words {
+        self.begin(out, b"event [").record(out, s).close(out)
+    }
+
+    fn record(self, out: &mut [u8], s: &[u8]) -> Words {
+        self.ids(out, s)
+            .version(out, s)
+            .fields(out, s)
+            .tag(out, s, b"passthrough")
+    }
+
+    fn ids(self, out: &mut [u8], s: &[u8]) -> Words {
+        self.provider(out, s)
+            .text(out, s, b"id", MAX_ID)
+            .other_ids(out, s)
+    }
+
+    fn other_ids(self, out: &mut [u8], s: &[u8]) -> Words {
+        self.option_text(out, s, b"ical uid", MAX_ID)
+            .option_text(out, s, b"series id", MAX_ID)
+    }
+
+    fn version(self, out: &mut [u8], s: &[u8]) -> Words {
+        self.option_short_text(out, s, b"revision")
+            .number(out, s, b"mapper version", U32)
+    }
+}
