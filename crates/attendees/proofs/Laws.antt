@@ -23,7 +23,7 @@ use Rattle.comparison.specs.declared.Verdict.the-variants.{Theirs, Ours, Confli
 use Rattle.pens.specs.Writing.{Wrote, Listed}
 use Rattle.pens.specs.declared.Pen.{Pen}
 use Rattle.attendees.specs.Entries.{entryCount, entryAt, entryBytes, addressOf, oneIf, tallyOf, occurrenceOf, findFrom, findBytes, shownAddress, headOf, replyOf, kindOf, sameRest, judgeWhole, judgeRemoved, restRefused, judgeStanding, judgeOwn, judgeOf, entryValueItems, sideBytes, entryRefused, entryConflict, entryItems, ownOf, keyItems, ourKeyItems, theirItems, ourItems, entriesItems}
-use Rattle.attendees.specs.declared.Judged.{Judged}
+use Rattle.attendees.specs.declared.judging.Judged.{Judged}
 
 module _ (e : List ℕ) where
   pub reply-short : length e < 2 → 0 ≡ replyOf e

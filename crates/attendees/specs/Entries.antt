@@ -17,7 +17,7 @@ use Rattle.frame.specs.Read.{skips, start, valueAt}
 use Rattle.frame.specs.declared.Cursor.{Cursor}
 use Rattle.comparison.specs.Bytes.{sameFolded, verdictOf, isOurs, isConflict, isRefused, span}
 use Rattle.comparison.specs.declared.Verdict.{Verdict}
-use Rattle.attendees.specs.declared.Judged.{Judged}
+use Rattle.attendees.specs.declared.judging.Judged.{Judged}
 
 -- a list's count of entries
 unfoldable pub entryCount : List ℕ → ℕ

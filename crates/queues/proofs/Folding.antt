@@ -36,8 +36,8 @@ use Rattle.waiting.specs.Queues.{queue, nth}
 use Rattle.waiting.specs.Entries.{SomeEntryAt, EntryIs, FindsEntry}
 use Rattle.waiting.proofs.Lists.{nth-back}
 use Rattle.queues.specs.Parts.{StandsAt, PartOf, EndOf, part-of}
-use Rattle.queues.specs.declared.Folded.{Folded}
-use Rattle.queues.specs.declared.Folded.the-variants.{Apart, Into, Cancelled}
+use Rattle.queues.specs.declared.coalescing.Folded.{Folded}
+use Rattle.queues.specs.declared.coalescing.Folded.the-variants.{Apart, Into, Cancelled}
 use Rattle.queues.specs.Folding.{event-front, fold-update, fold-create, Folds, FoldedAs}
 use Rattle.queues.proofs.Parts.{after, part-in}
 use Rattle.queues.proofs.Writers.{filled, fields-there, update-bytes, delete-bytes}

@@ -35,8 +35,8 @@ use Rattle.machine.specs.Contract.{Ran, Does, Changes, Pushes}
 use Rattle.machine.specs.Steps.{tried-by}
 use Rattle.machine.proofs.Runs as runs
 use Rattle.machine.proofs.Steps as steps
-use Rattle.queues.specs.declared.Folded.{Folded}
-use Rattle.queues.specs.declared.Folded.the-variants.{Apart, Into, Cancelled}
+use Rattle.queues.specs.declared.coalescing.Folded.{Folded}
+use Rattle.queues.specs.declared.coalescing.Folded.the-variants.{Apart, Into, Cancelled}
 use Rattle.queues.specs.Parts.{Filled, part-of}
 use Rattle.queues.specs.Heads.{notify-at}
 use Rattle.queues.specs.Folding.{FoldedInto, Folds, FoldedAs}

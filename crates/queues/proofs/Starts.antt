@@ -36,8 +36,8 @@ use Rattle.waiting.proofs.Laws as waiting
 use Rattle.machine.specs.declared.Progress.{Progress}
 use Rattle.machine.specs.Contract.{Holds, Does}
 use Rattle.machine.proofs.Runs as runs
-use Rattle.queues.specs.declared.Beginning.{Beginning}
-use Rattle.queues.specs.declared.Beginning.the-variants as Begin
+use Rattle.queues.specs.declared.head.Beginning.{Beginning}
+use Rattle.queues.specs.declared.head.Beginning.the-variants as Begin
 use Rattle.queues.specs.Heads.{begins-write, begins-delete, begins-by, begins-as, created, created-by, notify-at}
 use Rattle.queues.proofs.Heads.{head-is}
 

@@ -9,8 +9,8 @@ use Rattle.model.specs.Edits.{Operation}
 use Rattle.model.specs.Formats.{same, shortText, u32, idsF, fieldsF, operationF}
 use Rattle.model.specs.Maps.{if_then_else_}
 use Rattle.model.specs.Sync.{Coalesced, with-fields}
-use Rattle.queues.specs.declared.Folded.{Folded}
-use Rattle.queues.specs.declared.Folded.the-variants.{Apart, Into, Cancelled}
+use Rattle.queues.specs.declared.coalescing.Folded.{Folded}
+use Rattle.queues.specs.declared.coalescing.Folded.the-variants.{Apart, Into, Cancelled}
 use Rattle.queues.specs.Parts.{Filled}
 
 -- the bytes of an event before its fields

@@ -20,10 +20,10 @@ use Rattle.waiting.specs.Queues.{queue, nth}
 use Rattle.waiting.specs.Reading.{nth-id}
 use Rattle.machine.specs.declared.Progress.{Progress}
 use Rattle.machine.specs.Contract.{Holds, Ran}
-use Rattle.queues.specs.declared.Beginning.{Beginning}
-use Rattle.queues.specs.declared.Beginning.the-variants as Begin
-use Rattle.queues.specs.declared.Ending.{Ending}
-use Rattle.queues.specs.declared.Ending.the-variants.{Applied, Rejected, By}
+use Rattle.queues.specs.declared.head.Beginning.{Beginning}
+use Rattle.queues.specs.declared.head.Beginning.the-variants as Begin
+use Rattle.queues.specs.declared.telling.Ending.{Ending}
+use Rattle.queues.specs.declared.telling.Ending.the-variants.{Applied, Rejected, By}
 
 -- what an ending stands for, with the frame that its outcome's places are in: none for an edit that is applied
 abbrev pub rejection-of : List ℕ → Ending → Option Rejection

@@ -34,7 +34,7 @@ use Rattle.state.proofs.Regions.{rows-long, flight-long}
 use Rattle.regions.specs.Tests.{filled, isField, isNamed, isFlight, everySlot}
 use Rattle.regions.specs.Inside.{MapIn, NamesIn}
 use Rattle.regions.proofs.Fields.{field-yes, field-no}
-use Rattle.regions.specs.declared.Value.{Value}
+use Rattle.regions.specs.declared.field.Value.{Value}
 
 -- an entry that the bytes of a slot are
 pub record Entry {E : Type 0} (slot : E → List ℕ) (P : E → Type 0) (s : List ℕ) : Type 0 where

@@ -24,8 +24,8 @@ use Rattle.frame.proofs.Means.{means-nothing, nth-first, nth-other, skips-case}
 use Rattle.frame.specs.declared.Cursor.{Cursor}
 use Rattle.regions.specs.Tests.{zerosLeft, filled, skipsValue, isField}
 use Rattle.regions.specs.Inside.{FieldIn}
-use Rattle.regions.specs.declared.Value.{Value}
-use Rattle.regions.specs.declared.Value.the-variants as value
+use Rattle.regions.specs.declared.field.Value.{Value}
+use Rattle.regions.specs.declared.field.Value.the-variants as value
 
 -- the test of the bytes behind the place is the test of the whole
 pub filled-by : {A : Type 0} {f : Format A} → Lawful f → (s : List ℕ) (c : Cursor) → c ≡ skips f s start → both (c .ok) (allZero (drop (c .at) s)) ≡ filled f s

@@ -24,9 +24,9 @@ use Rattle.regions.specs.Tests.{filled, isSlot, stride, key-width}
 use Rattle.regions.specs.Inside.{FieldIn, TableIn, RecordsIn, StagedIn, SeenIn, ObservedIn, FlightsIn, LearnedIn, AliasesIn}
 use Rattle.regions.proofs.Fields.{field-yes, field-no}
 use Rattle.regions.proofs.Entries.{Rows, Held-in, rows-yes, rows-table, rows-slots, named-rows, name-rows, flight-rows, to-map, of-map, to-names, of-names}
-use Rattle.regions.specs.declared.Value.the-variants as value
-use Rattle.regions.specs.declared.Slot.{Slot}
-use Rattle.regions.specs.declared.Slot.the-variants as slot
+use Rattle.regions.specs.declared.field.Value.the-variants as value
+use Rattle.regions.specs.declared.table.Slot.{Slot}
+use Rattle.regions.specs.declared.table.Slot.the-variants as slot
 
 -- a field
 pub field-both : {A : Type 0} {f : Format A} → Lawful f → (at len : ℕ) (b : List ℕ) {r : Bool} → at + len ≤ length b → r ≡ filled f (part at len b)

@@ -15,9 +15,9 @@ use Rattle.model.specs.Formats.{resourceId, u64}
 use Rattle.model.specs.SavedForm.{purposeF}
 use Rattle.regions.specs.Tests.{filled, isField, isNamed, isFlight, isSlot, stride, key-width, everySlot}
 use Rattle.regions.specs.Inside.{TableIn}
-use Rattle.regions.specs.declared.Value.{Value}
-use Rattle.regions.specs.declared.Slot.{Slot}
-use Rattle.regions.specs.declared.Slot.the-variants as slot
+use Rattle.regions.specs.declared.field.Value.{Value}
+use Rattle.regions.specs.declared.table.Slot.{Slot}
+use Rattle.regions.specs.declared.table.Slot.the-variants as slot
 
 -- ---- one slot
 

@@ -17,7 +17,7 @@ use Rattle.model.specs.SavedForm.{stagedF, purposeF}
 use Rattle.state.specs.Layout.{field, region, name-slot, record-slot, staged-slot, flight-slot, learned-slot, alias-slot, edit-slots, pending-width, pass-of}
 use Rattle.state.specs.Fits.{Held, Names, PassFits, EditsFit}
 use Rattle.regions.specs.Tests.{isSlot, everySlot, stride, key-width}
-use Rattle.regions.specs.declared.Slot.{Slot}
+use Rattle.regions.specs.declared.table.Slot.{Slot}
 
 -- a field holds a value that may stand in it
 pub record FieldIn {A : Type 0} (width : ℕ) (f : Format A) (b : List ℕ) : Type 0 where

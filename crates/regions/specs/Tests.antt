@@ -13,10 +13,10 @@ use Rattle.frame.specs.Read.{start, skips}
 use Rattle.frame.specs.declared.Cursor.{Cursor}
 use Rattle.model.specs.Formats.{resourceId, shortText, u64, eventF, listFromF}
 use Rattle.model.specs.SavedForm.{stagedF, purposeF}
-use Rattle.regions.specs.declared.Value.{Value}
-use Rattle.regions.specs.declared.Value.the-variants as value
-use Rattle.regions.specs.declared.Slot.{Slot}
-use Rattle.regions.specs.declared.Slot.the-variants as slot
+use Rattle.regions.specs.declared.field.Value.{Value}
+use Rattle.regions.specs.declared.field.Value.the-variants as value
+use Rattle.regions.specs.declared.table.Slot.{Slot}
+use Rattle.regions.specs.declared.table.Slot.the-variants as slot
 
 abbrev pub zerosLeft : {A : Type 0} → Got A → Bool
 zerosLeft none = false

@@ -1,0 +1,101 @@
+// The parts of an edit, encoded: each writer answers how many bytes it wrote.
+ghost use mathlib.Core.Path.{_≡_};
+ghost use Prim.Native.Nat.{_≤_};
+ghost use lib.ListN.{length};
+ghost use Rattle.format.specs.Format.{option, stamp};
+ghost use Rattle.model.specs.Formats.{resourceId, shortText, operationF, roleF};
+ghost use Rattle.frame.specs.Meaning.{textAt, resourceAt, meantRole, meantExpiry, meantOperation};
+ghost use Rattle.effects.specs.Sent.{pen};
+ghost use Rattle.state.specs.Values.{name-of, Named};
+ghost use Rattle.queues.specs.Parts.{Filled};
+use crate::expiry::bits_of;
+use crate::places::event_at;
+use crate::places::fields_at;
+use frame::Expiry;
+use frame::Operation;
+use frame::Role;
+use names::Name;
+use pens::Pen;
+
+pub fn start() -> Pen
+    ensures { λ r. ⌜ r ≡ pen 0 ⌝ }
+{
+    Pen { at: 0, ok: true }
+}
+
+pub fn put_id(buf: &mut [u8], frame: &[u8], id: usize) -> usize
+    requires { ⌜ (33 ≤ length (now buf)) × (shortText .Ok (textAt (now frame) id)) ⌝ }
+    ensures { λ r. ⌜ Filled (shortText .enc (textAt (now (frame .entry)) id)) (now (buf .exit)) r ⌝ }
+{
+    let text = frame::short_text_at(frame, id);
+    let end = start().text(buf, text);
+    end.at
+}
+
+pub fn put_role(buf: &mut [u8], frame: &[u8], role: Role) -> usize
+    requires { ⌜ (34 ≤ length (now buf)) × (roleF .Ok (meantRole (now frame) role)) ⌝ }
+    ensures { λ r. ⌜ Filled (roleF .enc (meantRole (now (frame .entry)) role)) (now (buf .exit)) r ⌝ }
+{
+    match role {
+        Role::Owner => {
+            let end = start().byte(buf, 0);
+            return end.at;
+        }
+        Role::Attendee(address) => {
+            let text = frame::short_text_at(frame, address);
+            let end = start().byte(buf, 1).text(buf, text);
+            return end.at;
+        }
+    }
+}
+
+pub fn put_expiry(buf: &mut [u8], expiry: Expiry) -> usize
+    requires { ⌜ (9 ≤ length (now buf)) × (option stamp .Ok (meantExpiry expiry)) ⌝ }
+    ensures { λ r. ⌜ Filled (option stamp .enc (meantExpiry expiry)) (now (buf .exit)) r ⌝ }
+{
+    match expiry {
+        Expiry::Never => {
+            let end = start().byte(buf, 0);
+            return end.at;
+        }
+        Expiry::At(at) => {
+            let bits = bits_of(at);
+            let end = start().byte(buf, 1).number(buf, bits);
+            return end.at;
+        }
+    }
+}
+
+pub fn put_operation(buf: &mut [u8], frame: &[u8], operation: Operation) -> usize
+    requires { ⌜ (1469 ≤ length (now buf)) × (operationF .Ok (meantOperation (now frame) operation)) ⌝ }
+    ensures { λ r. ⌜ Filled (operationF .enc (meantOperation (now (frame .entry)) operation)) (now (buf .exit)) r ⌝ }
+{
+    match operation {
+        Operation::Create(event) => {
+            let bytes = event_at(frame, event);
+            let end = start().byte(buf, 0).part(buf, bytes);
+            return end.at;
+        }
+        Operation::Update(base, ours) => {
+            let from = fields_at(frame, base);
+            let to = fields_at(frame, ours);
+            let end = start().byte(buf, 1).part(buf, from).part(buf, to);
+            return end.at;
+        }
+        Operation::Delete => {
+            let end = start().byte(buf, 2);
+            return end.at;
+        }
+    }
+}
+
+// A name by value of the resource at a place of the frame.
+pub fn resource_name(frame: &[u8], resource: usize) -> Name
+    requires { ⌜ resourceId .Ok (resourceAt (now frame) resource) ⌝ }
+    ensures { λ r. ⌜ (name-of (r .bytes) ≡ resourceAt (now (frame .entry)) resource) × Named (r .bytes) ⌝ }
+{
+    let text = frame::resource_at(frame, resource);
+    let mut bytes = [0u8; 33];
+    let end = start().text(&mut bytes, text);
+    Name { bytes }
+}
