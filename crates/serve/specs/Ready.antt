@@ -2,7 +2,7 @@
 use Prim.Native.Nat.{ℕ, _≤_}
 use mathlib.Core.List.{List}
 use lib.ListN.{length}
-use Rattle.serve.specs.declared.Input.{Input}
+use Rattle.serve.specs.declared.input.Input.{Input}
 
 -- the bytes that are left lie within the chunk, and those that are kept within the line
 pub record Ready (chunk line : List ℕ) (p : Input) : Type 0 where
