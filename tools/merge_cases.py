@@ -1,12 +1,13 @@
 #!/usr/bin/env python3
-"""Writes merge cases and the published Rust's answers to them: merge_cases.py ORACLE SEED CASES FOLDER
+"""Writes merge cases and the published Rust's answers to them: merge_cases.py SEED CASES FOLDER
 
 FOLDER/stdin gets the cases back to back (base, ours, theirs, role, as they stand in a frame), FOLDER/stdout a line for each: 06 where the
 merged event has over 8 attendees, else 01 or 00 (changed or not), the merged event where it changed, the conflicts and the refused
-list, in hexadecimal. ORACLE is a program that runs the published `step` on frames, one a line in hexadecimal. Each case runs from a
-fresh state: an update of base and ours, the read of theirs, and the write's reply.
+list, in hexadecimal. The judge answers them (judge.py): each case runs from a fresh state, an update of base and ours, the read of theirs,
+and the write's reply. crates/merge_replay has the 230 cases of seed 7.
 """
-import random, subprocess, sys
+import random, sys
+import judge
 
 def text(t): b = t.encode(); return bytes([len(b)]) + b
 def opt(x, f): return b"\0" if x is None else b"\1" + f(x)
@@ -46,20 +47,15 @@ def case(r):
     role = b"\0" if r.random() < 0.6 else b"\1" + text(r.choice(ADDRESSES))
     return base, ours, event, role
 
-def answers(oracle, frames):
-    out = subprocess.run([oracle, "run", "--fast"], input="".join(f.hex() + "\n" for f in frames), capture_output=True, text=True, check=True).stdout.split("\n")
-    at, res = 0, []
-    for _ in frames:
-        n = int(out[at][2:6], 16)
-        res.append((int(out[at][:2], 16), [bytes.fromhex(x) for x in out[at + 1:at + 1 + n]]))
-        at += 1 + n
-    return res
+def steps(frames):
+    """Of each frame the answer's number, and the effects."""
+    return [(int(lines[0][:2], 16), [bytes.fromhex(l.decode()) for l in lines[1:]]) for lines in judge.answers([f.hex().encode() for f in frames])]
 
-def answer(oracle, base, ours, event, role):
+def answer(base, ours, event, role):
     edit = b"\1" + text("e") + text("r") + b"\1" + base + ours + role + b"\0"
     read = b"\2" + num(0) + b"\1\1" + event
     written = b"\2" + num(1) + b"\2" + event
-    _, (code, effects), (_, after) = answers(oracle, [edit, read, written])
+    _, (code, effects), (_, after) = steps([edit, read, written])
     if code == 6: return "06"
     assert code == 0, code
     if effects[0][0] == 1:
@@ -74,10 +70,10 @@ def answer(oracle, base, ours, event, role):
     return "%02x %s %s" % (1 if merged else 0, merged.hex() or "-", applied[4:].hex())
 
 def main():
-    oracle, seed, count, folder = sys.argv[1], int(sys.argv[2]), int(sys.argv[3]), sys.argv[4]
+    seed, count, folder = int(sys.argv[1]), int(sys.argv[2]), sys.argv[3]
     r = random.Random(seed)
     cases = [case(r) for _ in range(count)]
-    lines = [answer(oracle, *c) for c in cases]
+    lines = [answer(*c) for c in cases]
     data = b"".join(b"".join(c) for c in cases)
     assert len(data) <= 65536, len(data)
     open(folder + "/stdin", "wb").write(data)

@@ -1,27 +1,22 @@
 #!/usr/bin/env python3
-"""Writes the list that the program `replay` runs, and what it must print: replay_cases.py JUDGE SEEDS STEPS TIMES FOLDER
+"""Writes the list that the program `replay` runs, and what it must print: replay_cases.py SEEDS STEPS TIMES FOLDER
 
-JUDGE is the program that compare/build makes. Of the runs of STEPS frames with the seeds 1 to SEEDS in each of its six profiles, from a
-fresh state, it takes runs, each cut after a frame, until each of the judge's listed situations (`judge reach`) is reached in
-TIMES of them, or in as many as there are: each time the start of a run that reaches most of what is wanted for its bytes. FOLDER/stdin gets the frames
-with the judge's answers (crates/replay/src/main.rt says in what form), FOLDER/stdout a line for each run.
+Of the judge's runs (judge.py) of STEPS frames from a fresh state with the seeds 1 to SEEDS in each of its six profiles, it takes as much as it
+needs for each of the listed situations (`judge reach`) to be reached in TIMES runs, or in as many as there are: again and again the frames that
+reach the most of what is still wanted for their bytes, from a run's start or on from where the last were cut. FOLDER/stdin gets the frames with the judge's answers
+(crates/replay/src/main.rt says in what form), FOLDER/stdout a line for each run. crates/replay has `replay_cases.py 100 500 2`.
 """
 import subprocess, sys
+import judge
 
 START = 2000    # what another run costs, beside its bytes: few long runs tell more than many short ones
 
 class Run:
     """The frames of one seed and profile, the judge's answers, and the situations that they reach."""
-    def __init__(self, judge, profile, seed, steps):
-        self.name = "%s %d" % (profile, seed)
-        gen = subprocess.run([judge, "gen", "--seed", str(seed), "--steps", str(steps), "--profile", profile], capture_output=True, check=True)
-        self.frames = gen.stdout.split(b"\n")[:-1]
-        out = subprocess.run([judge, "run"], input=gen.stdout, capture_output=True, check=True).stdout.split(b"\n")
-        self.answers, at = [], 0
-        for _ in self.frames:
-            end = at + 1 + int(out[at][2:6], 16)
-            self.answers.append(out[at:end])
-            at = end
+    def __init__(self, profile, seed, steps):
+        self.name = "%s %s" % (profile, seed)
+        self.frames = judge.judge(["gen", "--seed", seed, "--steps", str(steps), "--profile", profile]).split(b"\n")[:-1]
+        self.answers = judge.answers(self.frames)
         self.taken = 0                 # how many frames of it are in the list
         self.first = []                # (frame, situation), in the frames' order
         self.bytes = [0]               # how much of the list the first n frames take
@@ -38,16 +33,17 @@ class Run:
                 best = max(best, (found / (cost + self.bytes[frame]), frame))
         return best
 
-def reach(judge, seeds, steps):
-    lines = subprocess.run([judge, "reach", "--seed", "1..%d" % seeds, "--steps", str(steps)], capture_output=True, text=True).stdout
+def reach(seeds, steps):
+    """The runs, and the situations that none of them reaches."""
+    out = subprocess.run([judge.JUDGE, "reach", "--seed", "1..%d" % seeds, "--steps", str(steps)], stdout=subprocess.PIPE, text=True).stdout
     runs, missed = {}, []
-    for line in lines.splitlines():
+    for line in out.splitlines():
         if line.startswith("- "):
             missed.append(line[2:])
             continue
         profile, seed, frame, situation = line.split(" ", 3)
         if (profile, seed) not in runs:
-            runs[profile, seed] = Run(judge, profile, int(seed), steps)
+            runs[profile, seed] = Run(profile, seed, steps)
         runs[profile, seed].first.append((int(frame), situation))
     for run in runs.values():
         run.first.sort()
@@ -69,8 +65,8 @@ def choose(runs, times):
     return [run for run in runs if run.taken]
 
 def main():
-    judge, seeds, steps, times, folder = sys.argv[1], int(sys.argv[2]), int(sys.argv[3]), int(sys.argv[4]), sys.argv[5]
-    runs, missed = reach(judge, seeds, steps)
+    seeds, steps, times, folder = int(sys.argv[1]), int(sys.argv[2]), int(sys.argv[3]), sys.argv[4]
+    runs, missed = reach(seeds, steps)
     chosen = choose(runs, times)
     total = sum(run.taken for run in chosen)
     with open(folder + "/stdin", "wb") as out:

@@ -5,7 +5,7 @@ use crate::limited::{
     Change, Cursor, Edit, EditId, Failure, Input, Next, Operation, Outcome, Page, RequestId, ResourceId, Role,
 };
 use crate::view::Purpose;
-use calendar_sync_model::{Attendee, Provider, ProviderRevision, tags};
+use calendar_sync_model::{Attendee, NormalizedEvent, Provider, ProviderRevision, tags};
 
 impl Gen<'_> {
     pub(super) fn script(&mut self) {
@@ -149,41 +149,42 @@ impl Gen<'_> {
         }
     }
 
-    /// An update that brings in more attendees than there is room for.
-    fn crowd(&mut self) {
+    /// A name without a queue, or nothing.
+    fn idle(&mut self, letter: char) -> Option<String> {
         if self.view.waiting() > 4 {
             self.drain();
         }
-        let name = format!("c{}", self.rng.below(3));
-        if self.view.edits.contains_key(&res(name.clone())) {
-            return;
-        }
-        let mut base = self.fields();
-        base.attendees = (0..self.rng.below(4)).map(|i| Attendee::new(format!("x{i}@m"))).collect();
-        let mut ours = base.clone();
-        let room = 8 - ours.attendees.len();
-        let adds = 1 + self.rng.below(room);
-        ours.attendees.extend((0..adds).map(|i| Attendee::new(format!("y{i}@m"))));
-        let mut theirs = base.clone();
-        let room = 8 - theirs.attendees.len();
-        let adds = self.rng.below(room + 1);
-        theirs.attendees.extend((0..adds).map(|i| Attendee::new(format!("z{i}@m"))));
-        self.simple(&name, Operation::Update { base, ours }, Role::Owner);
-        if let Some(r) = self.edit_read(&name) {
-            let e = self.event_with(&name, theirs);
+        let name = format!("{letter}{}", self.rng.below(3));
+        (!self.view.edits.contains_key(&res(name.clone()))).then_some(name)
+    }
+
+    /// An update that is merged with theirs.
+    fn merged(&mut self, name: &str, [base, ours, theirs]: [NormalizedEvent; 3], role: Role) {
+        self.simple(name, Operation::Update { base, ours }, role);
+        if let Some(r) = self.edit_read(name) {
+            let e = self.event_with(name, theirs);
             self.answer(r, Outcome::Read(Some(e)));
         }
     }
 
+    /// An update that brings in more attendees than there is room for.
+    fn crowd(&mut self) {
+        let Some(name) = self.idle('c') else { return };
+        let mut base = self.fields();
+        base.attendees = (0..self.rng.below(4)).map(|i| Attendee::new(format!("x{i}@m"))).collect();
+        let room = 8 - base.attendees.len();
+        let mut ours = base.clone();
+        let adds = 1 + self.rng.below(room);
+        ours.attendees.extend((0..adds).map(|i| Attendee::new(format!("y{i}@m"))));
+        let mut theirs = base.clone();
+        let adds = self.rng.below(room + 1);
+        theirs.attendees.extend((0..adds).map(|i| Attendee::new(format!("z{i}@m"))));
+        self.merged(&name, [base, ours, theirs], Role::Owner);
+    }
+
     /// An attendee who adds its own entry, which theirs has too or not, or takes it out.
     fn own_entry(&mut self) {
-        if self.view.waiting() > 4 {
-            self.drain();
-        }
-        let name = format!("o{}", self.rng.below(3));
-        if self.view.edits.contains_key(&res(name.clone())) {
-            return;
-        }
+        let Some(name) = self.idle('o') else { return };
         let mut base = self.fields();
         base.attendees.retain(|a| !a.address.eq_ignore_ascii_case("me@m"));
         base.attendees.truncate(6);
@@ -199,13 +200,7 @@ impl Gen<'_> {
                 f.attendees.insert(at, a);
             }
         }
-        let [base, ours, theirs] = sides;
-        let role = Role::Attendee { address: "me@M".to_owned() };
-        self.simple(&name, Operation::Update { base, ours }, role);
-        if let Some(r) = self.edit_read(&name) {
-            let e = self.event_with(&name, theirs);
-            self.answer(r, Outcome::Read(Some(e)));
-        }
+        self.merged(&name, sides, Role::Attendee { address: "me@M".to_owned() });
     }
 
     /// Writes that a full listing overtakes, so that Refreshes are made; then what may befall them.

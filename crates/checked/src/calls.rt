@@ -1,23 +1,14 @@
 // Calls of the engine, and what they answer.
+use comparison::same;
 use pens::Pen;
 use printing::number;
 use printing::say;
-use spans::Order;
 
 pub struct Answer {
     // 0, or the refusal's number
     pub code: u8,
     // whether the state's bytes are what they were
     pub kept: bool,
-}
-
-fn same(a: &[u8], b: &[u8]) -> bool {
-    let o = spans::compare(a, b);
-    match o {
-        Order::Less => false,
-        Order::Equal => true,
-        Order::Greater => false,
-    }
 }
 
 // One step.
@@ -33,14 +24,18 @@ pub fn call(state: &mut [u8; engine::STATE], frame: &[u8]) -> Answer {
     }
 }
 
-// One step with the frame that was written.
+// One step with the frame that was written: 255 where there was no room for it.
 pub fn send(state: &mut [u8; engine::STATE], frame: &[u8], pen: Pen) -> Answer {
+    let none = Answer {
+        code: 255,
+        kept: false,
+    };
     let end = pen.at;
+    if !pen.ok {
+        return none;
+    }
     if frame.len() < end {
-        return Answer {
-            code: 255,
-            kept: false,
-        };
+        return none;
     }
     call(state, &frame[0..end])
 }

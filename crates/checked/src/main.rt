@@ -1,5 +1,5 @@
-// The lines that document 01 has checked by hand, without those marked there, and RFC 3629's examples, each through the engine: frames at and
-// around every limit, each on a fresh state or on one that steps have filled.
+// Document 01's "Checked by hand", the lines that are not marked, and RFC 3629's examples, through the engine: frames at every limit and one past
+// it, on a fresh state or on one that steps have filled. What is printed behind a colon is the answer: 0, or the refusal.
 mod calls;
 mod fill;
 mod frames;

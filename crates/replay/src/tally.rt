@@ -1,7 +1,7 @@
 // What is counted, and how far the answer to the last frame is compared.
+use comparison::same;
 use printing::number;
 use printing::show;
-use spans::Order;
 
 pub struct Tally {
     // of the text that answers the last frame: what is compared, its end, and whether all of that was the same
@@ -27,15 +27,6 @@ fn plus(a: u64, b: u64) -> u64 {
         return b;
     }
     a + b
-}
-
-fn same(a: &[u8], b: &[u8]) -> bool {
-    let o = spans::compare(a, b);
-    match o {
-        Order::Less => false,
-        Order::Equal => true,
-        Order::Greater => false,
-    }
 }
 
 // The place after the line in the text from `at` to `end`, or 0 where it does not stand there.
