@@ -2,6 +2,7 @@
 use crate::booking::Booking;
 use crate::booking::event;
 use crate::booking::revision;
+use crate::mill::State;
 use access::Part;
 use comparison::part;
 use comparison::same;
@@ -104,13 +105,13 @@ pub fn update_asked(effects: &[u8], request: u64, b: Booking) -> u8 {
 }
 
 // Whether the bytes of a part of the state are these.
-fn is_part(state: &[u8], p: Part, bytes: &[u8]) -> bool {
+fn is_part(state: &State, p: Part, bytes: &[u8]) -> bool {
     let from = part(state, p.at, state.len());
     same(part(from, 0, p.length), bytes)
 }
 
 // Whether the only record is the booking, like this.
-pub fn recorded(state: &[u8], b: Booking) -> bool {
+pub fn recorded(state: &State, b: Booking) -> bool {
     let mut wanted = [0u8; 512];
     let end = event(Pen { at: 0, ok: true }, &mut wanted, b);
     let first = access::record_at(state, 0);
@@ -125,7 +126,7 @@ pub fn recorded(state: &[u8], b: Booking) -> bool {
 }
 
 // Whether the cursor is this one.
-pub fn cursor_is(state: &[u8], cursor: &[u8]) -> bool {
+pub fn cursor_is(state: &State, cursor: &[u8]) -> bool {
     let r = access::cursor(state);
     if !r.found {
         return false;
@@ -134,13 +135,13 @@ pub fn cursor_is(state: &[u8], cursor: &[u8]) -> bool {
 }
 
 // How many edits wait for the booking.
-pub fn waiting(state: &[u8]) -> usize {
+pub fn waiting(state: &State) -> usize {
     let r = access::waiting_count(state, b"bay 1");
     r.count
 }
 
 // Whether no request is in flight.
-pub fn nothing_in_flight(state: &[u8]) -> bool {
+pub fn nothing_in_flight(state: &State) -> bool {
     let r = access::in_flight_at(state, 0);
     !r.found
 }

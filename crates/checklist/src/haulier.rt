@@ -4,8 +4,9 @@ use crate::booking::slot;
 use crate::checks;
 use crate::frames::Terms;
 use crate::mill;
+use crate::mill::Log;
+use crate::mill::State;
 use crate::print;
-use comparison::part;
 use pens::Pen;
 
 fn booking(revision: u8, times: u64, load: u64, answer: u8) -> Booking {
@@ -18,7 +19,7 @@ fn booking(revision: u8, times: u64, load: u64, answer: u8) -> Booking {
 }
 
 // The clerk moves the slot from eight to nine and the load from 36 to 40 tonnes; the haulier has moved it to ten.
-fn clerk(state: &mut [u8], log: &mut [u8], pen: Pen) -> Pen {
+fn clerk(state: &mut State, log: &mut Log, pen: Pen) -> Pen {
     let queued = mill::moved(
         state,
         log,
@@ -32,7 +33,7 @@ fn clerk(state: &mut [u8], log: &mut [u8], pen: Pen) -> Pen {
 }
 
 // The haulier accepts, and moves the slot to eleven, which is the owner's to do.
-fn haulier(state: &mut [u8], log: &mut [u8], pen: Pen) -> Pen {
+fn haulier(state: &mut State, log: &mut Log, pen: Pen) -> Pen {
     let terms = Terms {
         by_haulier: true,
         deadline: 0,
@@ -88,9 +89,9 @@ pub fn walk() -> bool {
     let mut log = [0u8; 32768];
     let open = mill::open(&mut state, &mut log);
     let first = clerk(&mut state, &mut log, open);
-    let conflict = clerk_checks(part(&log, open.at, first.at));
+    let conflict = clerk_checks(mill::effects(&log, open, first));
     let second = haulier(&mut state, &mut log, first);
-    let refused = haulier_checks(part(&log, first.at, second.at));
+    let refused = haulier_checks(mill::effects(&log, first, second));
     let last = print::check(
         b"the booking stands at ten with 40 tonnes, accepted",
         checks::recorded(&state, booking(4, 1000, 40, 1)),

@@ -7,7 +7,13 @@ use crate::print;
 use comparison::part;
 use pens::Pen;
 
-fn send(state: &mut [u8], log: &mut [u8], pen: Pen, frame: &[u8]) -> Pen {
+// A state's buffer.
+pub type State = [u8; 58543];
+
+// The effects of a walk, back to back.
+pub type Log = [u8; 32768];
+
+fn send(state: &mut State, log: &mut Log, pen: Pen, frame: &[u8]) -> Pen {
     let mut work = [0u8; 58543];
     let mut out = [0u8; 32768];
     print::frame(frame);
@@ -18,23 +24,28 @@ fn send(state: &mut [u8], log: &mut [u8], pen: Pen, frame: &[u8]) -> Pen {
     pen.part(log, effects)
 }
 
-fn start() -> Pen {
+// The effects from one place of the log to another.
+pub fn effects(log: &Log, from: Pen, to: Pen) -> &[u8] {
+    part(log, from.at, to.at)
+}
+
+pub fn start() -> Pen {
     Pen { at: 0, ok: true }
 }
 
-pub fn sync(state: &mut [u8], log: &mut [u8], pen: Pen) -> Pen {
+pub fn sync(state: &mut State, log: &mut Log, pen: Pen) -> Pen {
     send(state, log, pen, b"\0")
 }
 
-pub fn tick(state: &mut [u8], log: &mut [u8], pen: Pen, now: u64) -> Pen {
+pub fn tick(state: &mut State, log: &mut Log, pen: Pen, now: u64) -> Pen {
     let mut frame = [0u8; 512];
     let end = frames::tick(start(), &mut frame, now);
     send(state, log, pen, part(&frame, 0, end.at))
 }
 
 pub fn update(
-    state: &mut [u8],
-    log: &mut [u8],
+    state: &mut State,
+    log: &mut Log,
     pen: Pen,
     id: &[u8],
     base: Booking,
@@ -48,8 +59,8 @@ pub fn update(
 
 // The clerk moves the slot, with no deadline.
 pub fn moved(
-    state: &mut [u8],
-    log: &mut [u8],
+    state: &mut State,
+    log: &mut Log,
     pen: Pen,
     id: &[u8],
     from: Booking,
@@ -63,8 +74,8 @@ pub fn moved(
 }
 
 pub fn listed(
-    state: &mut [u8],
-    log: &mut [u8],
+    state: &mut State,
+    log: &mut Log,
     pen: Pen,
     request: u64,
     b: Booking,
@@ -75,20 +86,20 @@ pub fn listed(
     send(state, log, pen, part(&frame, 0, end.at))
 }
 
-pub fn read(state: &mut [u8], log: &mut [u8], pen: Pen, request: u64, b: Booking) -> Pen {
+pub fn read(state: &mut State, log: &mut Log, pen: Pen, request: u64, b: Booking) -> Pen {
     let mut frame = [0u8; 512];
     let end = frames::read(start(), &mut frame, request, b);
     send(state, log, pen, part(&frame, 0, end.at))
 }
 
-pub fn written(state: &mut [u8], log: &mut [u8], pen: Pen, request: u64, b: Booking) -> Pen {
+pub fn written(state: &mut State, log: &mut Log, pen: Pen, request: u64, b: Booking) -> Pen {
     let mut frame = [0u8; 512];
     let end = frames::written(start(), &mut frame, request, b);
     send(state, log, pen, part(&frame, 0, end.at))
 }
 
 // A fresh state, and one pass that lists the slot at eight.
-pub fn open(state: &mut [u8], log: &mut [u8]) -> Pen {
+pub fn open(state: &mut State, log: &mut Log) -> Pen {
     access::fresh(state);
     let asked = sync(state, log, start());
     listed(state, log, asked, 0, slot(1, 800), b"\x06monday")

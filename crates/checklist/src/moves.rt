@@ -2,12 +2,13 @@
 use crate::booking::slot;
 use crate::checks;
 use crate::mill;
+use crate::mill::Log;
+use crate::mill::State;
 use crate::print;
-use comparison::part;
 use pens::Pen;
 
 // From eight to nine, to ten, to eleven.
-fn three_moves(state: &mut [u8], log: &mut [u8], pen: Pen) -> Pen {
+fn three_moves(state: &mut State, log: &mut Log, pen: Pen) -> Pen {
     let first = mill::moved(state, log, pen, b"\x06move 1", slot(1, 800), slot(1, 900));
     let second = mill::moved(
         state,
@@ -28,7 +29,7 @@ fn three_moves(state: &mut [u8], log: &mut [u8], pen: Pen) -> Pen {
 }
 
 // Each read and each write is answered.
-fn answered(state: &mut [u8], log: &mut [u8], pen: Pen) -> Pen {
+fn answered(state: &mut State, log: &mut Log, pen: Pen) -> Pen {
     let read = mill::read(state, log, pen, 1, slot(1, 800));
     let written = mill::written(state, log, read, 2, slot(2, 900));
     let again = mill::read(state, log, written, 3, slot(2, 900));
@@ -51,7 +52,7 @@ fn told(log: &[u8]) -> bool {
     first && second && third
 }
 
-fn ended(state: &[u8], log: &[u8]) -> bool {
+fn ended(state: &State, log: &[u8]) -> bool {
     let twice = print::check(b"two updates are sent", checks::written(log) == 2);
     let last = print::check(
         b"the booking stands at eleven",
@@ -78,7 +79,7 @@ pub fn walk() -> bool {
         checks::waiting(&state) == 2,
     );
     let end = answered(&mut state, &mut log, moved);
-    let effects = part(&log, 0, end.at);
+    let effects = mill::effects(&log, mill::start(), end);
     let told = told(effects);
     let ended = ended(&state, effects);
     print::verdict(two && told && ended)

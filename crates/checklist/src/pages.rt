@@ -2,20 +2,21 @@
 use crate::booking::slot;
 use crate::checks;
 use crate::mill;
+use crate::mill::Log;
+use crate::mill::State;
 use crate::print;
-use comparison::part;
 use pens::Pen;
 
 // The listing is asked for under the number 0, and its page is held back; meanwhile the slot is moved from eight to nine.
-fn moved(state: &mut [u8], log: &mut [u8]) -> Pen {
-    let asked = mill::sync(state, log, Pen { at: 0, ok: true });
+fn moved(state: &mut State, log: &mut Log) -> Pen {
+    let asked = mill::sync(state, log, mill::start());
     let queued = mill::moved(state, log, asked, b"\x04move", slot(1, 800), slot(1, 900));
     let read = mill::read(state, log, queued, 1, slot(1, 800));
     mill::written(state, log, read, 2, slot(2, 900))
 }
 
 // After the held page, which has the slot still at eight.
-fn after_page(state: &[u8], effects: &[u8]) -> bool {
+fn after_page(state: &State, effects: &[u8]) -> bool {
     let kept = print::check(
         b"the booking still stands at nine",
         checks::recorded(state, slot(2, 900)),
@@ -31,7 +32,7 @@ fn after_page(state: &[u8], effects: &[u8]) -> bool {
     kept && again && open
 }
 
-fn after_read(state: &[u8], effects: &[u8]) -> bool {
+fn after_read(state: &State, effects: &[u8]) -> bool {
     let kept = print::check(
         b"the booking stands at nine",
         checks::recorded(state, slot(2, 900)),
@@ -55,7 +56,7 @@ pub fn walk() -> bool {
     let written = moved(&mut state, &mut log);
     let told = print::check(
         b"\"move\" is told once",
-        checks::told(part(&log, 0, written.at), b"move") == 1,
+        checks::told(mill::effects(&log, mill::start(), written), b"move") == 1,
     );
     let page = mill::listed(
         &mut state,
@@ -65,8 +66,8 @@ pub fn walk() -> bool {
         slot(1, 800),
         b"\x06monday",
     );
-    let held = after_page(&state, part(&log, written.at, page.at));
+    let held = after_page(&state, mill::effects(&log, written, page));
     let read = mill::read(&mut state, &mut log, page, 3, slot(2, 900));
-    let synced = after_read(&state, part(&log, page.at, read.at));
+    let synced = after_read(&state, mill::effects(&log, page, read));
     print::verdict(told && held && synced)
 }
