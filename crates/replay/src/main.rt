@@ -36,8 +36,8 @@ fn one(
     if mark != FRAME {
         return t.answered(text, line);
     }
-    let end = program::answer_line(state, work, out, frame, &line[1..], text);
-    t.asked(end)
+    let r = program::answer_line(state, work, out, frame, &line[1..], text);
+    t.asked(r.text)
 }
 
 fn replay(list: &[u8])
