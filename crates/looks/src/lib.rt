@@ -8,6 +8,7 @@ use crate::text::put_byte;
 use crate::text::put_end;
 use crate::text::put_text;
 use access::Part;
+use frame::MAX_COUNT;
 ghost use mathlib.Core.Path.{_≡_};
 ghost use Prim.Native.Nat.{_≤_};
 ghost use lib.ListN.{length};
@@ -18,8 +19,6 @@ pub use resources::renew;
 
 // The longest line.
 pub const LOOK: usize = 19167;
-
-const MAX_COUNT: u8 = 255;
 
 fn part_of(state: &[u8], p: Part) -> &[u8]
     ensures { λ r. ⌜ now r ≡ part (p .at) (p .length) (now (state .entry)) ⌝ }
@@ -48,10 +47,13 @@ fn put_cursor(state: &[u8], text: &mut [u8], at: usize) -> usize
     put_text(text, some, part_of(state, r.text))
 }
 
-// What was written of a list: the place after it, and how many there were.
-struct Listed {
-    next: usize,
-    count: u8,
+// Writes a list's count into the byte that was left for it before the list.
+fn counted(text: &mut [u8], at: usize, count: u8, next: usize) -> usize
+    requires { ⌜ at ≤ length (now text) ⌝ }
+    ensures { λ r. ⌜ r ≡ next ⌝ }
+{
+    put_byte(text, at, count);
+    next
 }
 
 fn put_record(state: &[u8], text: &mut [u8], at: usize, name: Part, event: Part) -> usize
@@ -62,21 +64,21 @@ fn put_record(state: &[u8], text: &mut [u8], at: usize, name: Part, event: Part)
     put(text, named, part_of(state, event))
 }
 
-fn list_records(state: &[u8], text: &mut [u8], at: usize) -> Listed
+fn put_records(state: &[u8], text: &mut [u8], at: usize) -> usize
     requires { ⌜ at ≤ length (now text) ⌝ }
-    ensures { λ r. ⌜ r .next ≤ length (now (text .entry)) ⌝ }
+    ensures { λ r. ⌜ r ≤ length (now (text .entry)) ⌝ }
 {
-    let mut next = at;
+    let mut next = put_byte(text, at, 0);
     let mut count: u8 = 0;
     while count < MAX_COUNT {
         let r = access::record_at(state, count as usize);
         if !r.found {
-            return Listed { next, count };
+            return counted(text, at, count, next);
         }
         next = put_record(state, text, next, r.name, r.event);
         count += 1;
     }
-    Listed { next, count }
+    counted(text, at, count, next)
 }
 
 fn put_number(text: &mut [u8], at: usize, n: u64) -> usize
@@ -88,42 +90,21 @@ fn put_number(text: &mut [u8], at: usize, n: u64) -> usize
     put(text, at, &bytes)
 }
 
-fn list_flights(state: &[u8], text: &mut [u8], at: usize) -> Listed
-    requires { ⌜ at ≤ length (now text) ⌝ }
-    ensures { λ r. ⌜ r .next ≤ length (now (text .entry)) ⌝ }
-{
-    let mut next = at;
-    let mut count: u8 = 0;
-    while count < MAX_COUNT {
-        let r = access::in_flight_at(state, count as usize);
-        if !r.found {
-            return Listed { next, count };
-        }
-        next = put_number(text, next, r.number);
-        count += 1;
-    }
-    Listed { next, count }
-}
-
-// The count goes before the list, into the byte that was left for it.
-fn put_records(state: &[u8], text: &mut [u8], at: usize) -> usize
-    requires { ⌜ at ≤ length (now text) ⌝ }
-    ensures { λ r. ⌜ r ≤ length (now (text .entry)) ⌝ }
-{
-    let first = put_byte(text, at, 0);
-    let listed = list_records(state, text, first);
-    put_byte(text, at, listed.count);
-    listed.next
-}
-
 fn put_flights(state: &[u8], text: &mut [u8], at: usize) -> usize
     requires { ⌜ at ≤ length (now text) ⌝ }
     ensures { λ r. ⌜ r ≤ length (now (text .entry)) ⌝ }
 {
-    let first = put_byte(text, at, 0);
-    let listed = list_flights(state, text, first);
-    put_byte(text, at, listed.count);
-    listed.next
+    let mut next = put_byte(text, at, 0);
+    let mut count: u8 = 0;
+    while count < MAX_COUNT {
+        let r = access::in_flight_at(state, count as usize);
+        if !r.found {
+            return counted(text, at, count, next);
+        }
+        next = put_number(text, next, r.number);
+        count += 1;
+    }
+    counted(text, at, count, next)
 }
 
 // Writes the line at `at`, and answers the place after it.

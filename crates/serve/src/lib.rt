@@ -87,8 +87,8 @@ fn answer_all(
 
 // Answers the lines of standard input, from a fresh state; with `look`, each with what can be read of the state then.
 pub fn serve(look: bool) {
-    let mut state = [0u8; wellformed::STATE];
-    let mut work = [0u8; wellformed::STATE];
+    let mut state = [0u8; engine::STATE];
+    let mut work = [0u8; engine::STATE];
     let mut out = [0u8; frame::MAX_EFFECTS];
     let mut frame = [0u8; lines::MAX_FRAME];
     let mut names = [0u8; looks::QUEUES];
