@@ -130,9 +130,14 @@ module _ (s w o frame : Bytes) (ls : length s ≡ 58543) (lw : length w ≡ 5854
     told-long = length-take-le (a .length) o′ told-fits
 
     -- the answer to the line that holds the frame
-    pub answered-line : (l : Bytes) → frame ≡ frame-of l → {text : Bytes} {r : ℕ} → Answers (a .code) (effects-of after) text r → Answered l s s′ text r
+    pub answered-line : (l : Bytes) → frame ≡ frame-of l → {text : Bytes} {r : ℕ} → Answers (a .code) (effects-of after) text r
+        → Answered l s s′ o′ text (record { text = r; effects = a .length })
     answered-line l e A = record {
       fits = A .fits;
-      says = A .is ∙ ap (λ (n : ℕ). line (answer-bytes n (length (effects-of after))) ++ effect-lines (effects-of after)) code-is ∙ text-is after ∙ ap (λ (f : Bytes). answer-text (step-bytes s f)) e;
+      says =
+          A .is ∙ ap (λ (n : ℕ). line (answer-bytes n (length (effects-of after))) ++ effect-lines (effects-of after)) code-is
+          ∙ text-is after ∙ ap (λ (f : Bytes). answer-text (step-bytes s f)) e;
+      fits-out = told-fits;
+      tells = told .is ∙ ap (λ (f : Bytes). enc-effects (effects-of (step-bytes s f))) e;
       goes-on = goes-on ∙ ap (λ (f : Bytes). bytes-after s (step-bytes s f)) e;
     }

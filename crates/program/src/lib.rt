@@ -78,7 +78,13 @@ fn put_answer(text: &mut [u8], code: u8, effects: &[u8]) -> usize
     listed.next
 }
 
-// Answers a line: the state goes on, and the answer's text is the first bytes of `text`, as many as are answered.
+// How many bytes of the text the answer takes, and how many of the output its effects.
+pub struct Reply {
+    pub text: usize,
+    pub effects: usize,
+}
+
+// Answers a line: the state goes on, and the answer stands at the start of `text`.
 pub fn answer_line(
     state: &mut [u8],
     work: &mut [u8],
@@ -86,13 +92,17 @@ pub fn answer_line(
     frame: &mut [u8],
     line: &[u8],
     text: &mut [u8],
-) -> usize
+) -> Reply
     requires { ⌜ Buffers (now state) (now work) (now out) (now frame) (now text) ⌝ }
-    ensures { λ r. ⌜ Answered (now (line .entry)) (now (state .entry)) (now (state .exit)) (now (text .exit)) r ⌝ }
+    ensures { λ r. ⌜ Answered (now (line .entry)) (now (state .entry)) (now (state .exit)) (now (out .exit)) (now (text .exit)) r ⌝ }
 {
     let n = lines::frame_of(line, frame);
     let a = engine::step(state, work, out, &frame[..n]);
     let code = a.code;
-    let length = a.length;
-    put_answer(text, code, &out[..length])
+    let effects = a.length;
+    let written = put_answer(text, code, &out[..effects]);
+    Reply {
+        text: written,
+        effects,
+    }
 }
