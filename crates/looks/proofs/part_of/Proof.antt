@@ -1,0 +1,58 @@
+use Rattle.looks.proofs.Laws.{part-past, part-short, part-whole}
+use native.Mathlib.Omega.{arith}
+use borrow.Author.Needs.{needs}
+use Rattle.looks.proofs.part_of.Statement.{statement}
+use Rattle.looks.proofs.part_of.Tie as tie
+
+slice-aggregate-result : tie.Need-slice-aggregate-result
+slice-aggregate-result c = search needs
+
+returns : tie.Need-returns
+returns c = part-past (c .before .before .args .state .now) (c .before .before .args .p .at) (c .before .before .args .p .length) (c .before .if1 .taken)
+
+sub-if2 : tie.Need-sub-if2
+sub-if2 c = search needs
+
+sub-result : tie.Need-sub-result
+sub-result c = search needs
+
+part-result-start : tie.Need-part-result-start
+part-result-start c = search needs
+
+part-result-end : tie.Need-part-result-end
+part-result-end c = search needs
+
+returns-2 : tie.Need-returns-2
+returns-2 c = part-short (c .before .before .before .args .state .now) (c .before .before .before .args .p .at) (c .before .before .before .args .p .length) (c .before .if2 .taken)
+
+add-end : tie.Need-add-end
+add-end c = search needs
+
+sub-result-2 : tie.Need-sub-result-2
+sub-result-2 c = search needs
+
+part-result-start-2 : tie.Need-part-result-start-2
+part-result-start-2 c = search needs
+
+part-result-end-2 : tie.Need-part-result-end-2
+part-result-end-2 c = search needs
+
+returns-3 : tie.Need-returns-3
+returns-3 c = part-whole (c .before .before .before .args .state .now) (c .before .before .before .args .p .at) (c .before .before .before .args .p .length)
+
+pub part-of-spec : {M : Type 1} → statement M
+part-of-spec =
+    tie.close
+    (tie.spec
+    slice-aggregate-result
+    returns
+    sub-if2
+    sub-result
+    part-result-start
+    part-result-end
+    returns-2
+    add-end
+    sub-result-2
+    part-result-start-2
+    part-result-end-2
+    returns-3)
