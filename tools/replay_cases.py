@@ -1,10 +1,13 @@
 #!/usr/bin/env python3
-"""Writes the list that the program `replay` runs, and what it must print: replay_cases.py SEEDS STEPS TIMES FOLDER
+"""Writes the list that the program `replay` runs, and what it must print: replay_cases.py FOLDER SEEDS STEPS TIMES [PROFILE:SEED:FRAMES ..]
 
 Of the judge's runs (judge.py) of STEPS frames from a fresh state with the seeds 1 to SEEDS in each of its six profiles, it takes as much as it
-needs for each of the listed situations (`judge reach`) to be reached in TIMES runs, or in as many as there are: again and again the frames that
-reach the most of what is still wanted for their bytes, from a run's start or on from where the last were cut. FOLDER/stdin gets the frames with the judge's answers
-(crates/replay/src/main.rt says in what form), FOLDER/stdout a line for each run. crates/replay has `replay_cases.py 100 500 2`.
+needs for each of the listed situations (`judge reach`) to be reached in TIMES runs, or in as many as there are: first so many frames of the runs that
+are named, then again and again the frames that reach the most of what is still wanted for their bytes, from a run's start or on from where it was
+cut. FOLDER/stdin gets the frames with the judge's answers (crates/replay/src/main.rt says in what form), FOLDER/stdout a line for each run.
+
+crates/replay has what these words give. The runs named tell slips in the engine that the others let pass:
+100 500 2 limits:62:149 mixed:98:37 passes:13:15 passes:32:47 damage:7:67 mixed:27:12 queues:36:68 limits:85:4
 """
 import subprocess, sys
 import judge
@@ -33,6 +36,13 @@ class Run:
                 best = max(best, (found / (cost + self.bytes[frame]), frame))
         return best
 
+    def take(self, frames, wanted):
+        """Takes the run up to a frame, and what that reaches off the wanted situations."""
+        for frame, situation in self.first:
+            if self.taken < frame <= frames and wanted[situation]:
+                wanted[situation] -= 1
+        self.taken = max(self.taken, frames)
+
 def reach(seeds, steps):
     """The runs, and the situations that none of them reaches."""
     out = subprocess.run([judge.JUDGE, "reach", "--seed", "1..%d" % seeds, "--steps", str(steps)], stdout=subprocess.PIPE, text=True).stdout
@@ -49,25 +59,27 @@ def reach(seeds, steps):
         run.first.sort()
     return list(runs.values()), missed
 
-def choose(runs, times):
+def choose(runs, times, named):
     """Takes frames of the runs."""
     wanted = {}
     for run in runs:
         for _, situation in run.first:
             wanted[situation] = min(times, wanted.get(situation, 0) + 1)
+    for run in runs:
+        run.take(named.get(run.name, 0), wanted)
     while any(wanted.values()):
         run = max(runs, key=lambda r: r.best(wanted))
-        frames = run.best(wanted)[1]
-        for frame, situation in run.first:
-            if run.taken < frame <= frames and wanted[situation]:
-                wanted[situation] -= 1
-        run.taken = frames
+        run.take(run.best(wanted)[1], wanted)
     return [run for run in runs if run.taken]
 
 def main():
-    seeds, steps, times, folder = int(sys.argv[1]), int(sys.argv[2]), int(sys.argv[3]), sys.argv[4]
+    folder, seeds, steps, times = sys.argv[1], int(sys.argv[2]), int(sys.argv[3]), int(sys.argv[4])
+    named = {}
+    for words in sys.argv[5:]:
+        profile, seed, frames = words.split(":")
+        named[profile + " " + seed] = int(frames)
     runs, missed = reach(seeds, steps)
-    chosen = choose(runs, times)
+    chosen = choose(runs, times, named)
     total = sum(run.taken for run in chosen)
     with open(folder + "/stdin", "wb") as out:
         for run in chosen:
