@@ -6,8 +6,8 @@ use mathlib.Core.Path.{_≡_, refl, sym, ap, ap₂, _∙_, subst}
 use mathlib.Core.List.{List, [], _∷_, _++_}
 use mathlib.Core.Option.{Option, none, some, Option·none-ne-some}
 use mathlib.Core.Bool.{Bool, true, false}
-use lib.ListN.{length, take, drop, getD}
-use lib.Seq.{take-at, drop-at, take-all, getD-take, getD-drop}
+use lib.ListN.{length, take, drop, getD, length-drop}
+use lib.Seq.{take-at, drop-at, take-all, getD-take, getD-drop, length-take-le}
 use lib.Dec.{T, isEq, eqb}
 use borrow.Author.Tests.{eqb-true, eqb-false}
 use Rattle.format.specs.Format.{option, via, enum, _∣_, nothing, text as text-format, number, bigEndian}
@@ -20,6 +20,7 @@ use Rattle.tables.proofs.Laws as tables
 use Rattle.lent.specs.Lent.{part}
 use Rattle.frame.specs.Read.{start, skips}
 use Rattle.frame.specs.declared.Cursor.{Cursor}
+use Rattle.frame.proofs.Steps.{skips-le}
 use Rattle.frame.proofs.Spans.{skips-written}
 use Rattle.model.specs.Event.{Text, ProviderEvent}
 use Rattle.model.specs.Seam.{RequestId, ResourceId}
@@ -374,6 +375,13 @@ record-read w n i size extent R h p q = record {
 
 pub event-at : (w : List ℕ) (at : ℕ) (c : Cursor) → c ≡ skips eventF (take (at + 882 - at) (drop at w)) start → c .at ≡ skips eventF (part at 882 w) start .at
 event-at w at c e = ap (λ (x : Cursor). x .at) e ∙ ap (λ (x : List ℕ). skips eventF x start .at) (tables.part-is w 882 at)
+
+-- an event's bytes end within its slot
+pub event-inside : (w : List ℕ) (at extent : ℕ) → at + 882 ≤ length w → extent ≡ skips eventF (part at 882 w) start .at → at + extent ≤ length w
+event-inside w at extent h e =
+    let l : skips eventF (part at 882 w) start .at ≤ length (part at 882 w) = skips-le eventF-law (part at 882 w) start in
+    let m : length (part at 882 w) ≡ 882 = length-take-le 882 (drop at w) (simp length-drop (omega arith)) in
+    omega arith
 
 -- what a number stands for
 pub reads-number : {f : SyncState → Option ℕ} {a : Option ℕ} (b : Option ℕ) (w : List ℕ) → Reads f w a → a ≡ b → Reads (λ s. numbered (f s)) w (numbered b)

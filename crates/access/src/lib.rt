@@ -194,7 +194,7 @@ const CURSOR_LENGTH: usize = 9152;
 
 const CURSOR_TEXT: usize = 9153;
 
-// A part of the buffer.
+// A part of the buffer: it ends within it.
 pub struct Part {
     pub at: usize,
     pub length: usize,
@@ -208,14 +208,14 @@ pub struct TextAnswer {
 
 fn byte_at(state: &[u8], at: usize) -> usize
     requires { ⌜ at < length (now state) ⌝ }
-    ensures { λ r. ⌜ r ≡ getD (now (state .entry)) at 0 ⌝ }
+    ensures { λ r. ⌜ (r ≡ getD (now (state .entry)) at 0) × (r < 256) ⌝ }
 {
     state[at] as usize
 }
 
 fn cursor_text(state: &[u8]) -> TextAnswer
     requires { ⌜ HasState (now state) ⌝ }
-    ensures { λ r. ⌜ (r .code ≡ 0) × Reads (λ s. s .cursor) (now (state .entry)) (kept (r .found) (part (r .text .at) (r .text .length) (now (state .entry)))) ⌝ }
+    ensures { λ r. ⌜ (r .code ≡ 0) × Reads (λ s. s .cursor) (now (state .entry)) (kept (r .found) (part (r .text .at) (r .text .length) (now (state .entry)))) × (r .text .at + r .text .length ≤ length (now (state .entry))) ⌝ }
 {
     let some = byte_at(state, CURSOR);
     if some == 0 {
@@ -238,7 +238,7 @@ fn cursor_text(state: &[u8]) -> TextAnswer
 
 // The cursor's text, by its place in the buffer.
 pub fn cursor(state: &[u8]) -> TextAnswer
-    ensures { λ r. ⌜ Answers (λ s. s .cursor) none (now (state .entry)) (r .code) (kept (r .found) (part (r .text .at) (r .text .length) (now (state .entry)))) ⌝ }
+    ensures { λ r. ⌜ Answers (λ s. s .cursor) none (now (state .entry)) (r .code) (kept (r .found) (part (r .text .at) (r .text .length) (now (state .entry)))) × (r .text .at + r .text .length ≤ length (now (state .entry))) ⌝ }
 {
     let code = refusal(state);
     if code != 0 {
@@ -281,7 +281,7 @@ fn event_end(state: &[u8], at: usize) -> usize
 
 fn record_bytes(state: &[u8], i: usize) -> RecordAnswer
     requires { ⌜ HasState (now state) ⌝ }
-    ensures { λ r. ⌜ (r .code ≡ 0) × Reads (λ s. record-bytes (nth i (s .records))) (now (state .entry)) (kept (r .found) (part (r .name .at) (r .name .length) (now (state .entry)), part (r .event .at) (r .event .length) (now (state .entry)))) ⌝ }
+    ensures { λ r. ⌜ (r .code ≡ 0) × Reads (λ s. record-bytes (nth i (s .records))) (now (state .entry)) (kept (r .found) (part (r .name .at) (r .name .length) (now (state .entry)), part (r .event .at) (r .event .length) (now (state .entry)))) × (r .name .at + r .name .length ≤ length (now (state .entry))) × (r .event .at + r .event .length ≤ length (now (state .entry))) ⌝ }
 {
     let n = records::record_count(state);
     if n <= i {
@@ -314,7 +314,7 @@ fn record_bytes(state: &[u8], i: usize) -> RecordAnswer
 
 // The record at a place in their order: its resource, and its event in the frame's form, by their places in the buffer.
 pub fn record_at(state: &[u8], i: usize) -> RecordAnswer
-    ensures { λ r. ⌜ Answers (λ s. record-bytes (nth i (s .records))) none (now (state .entry)) (r .code) (kept (r .found) (part (r .name .at) (r .name .length) (now (state .entry)), part (r .event .at) (r .event .length) (now (state .entry)))) ⌝ }
+    ensures { λ r. ⌜ Answers (λ s. record-bytes (nth i (s .records))) none (now (state .entry)) (r .code) (kept (r .found) (part (r .name .at) (r .name .length) (now (state .entry)), part (r .event .at) (r .event .length) (now (state .entry)))) × (r .name .at + r .name .length ≤ length (now (state .entry))) × (r .event .at + r .event .length ≤ length (now (state .entry))) ⌝ }
 {
     let code = refusal(state);
     if code != 0 {

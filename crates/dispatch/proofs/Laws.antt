@@ -4,14 +4,12 @@ use mathlib.Core.Path.{_≡_, refl, sym, ap, _∙_, subst}
 use mathlib.Core.List.{List}
 use mathlib.Core.Option.{Option, none, some}
 use mathlib.Core.Bool.{Bool, true, false, _&&_, false≢true}
-use native.Mathlib.Nat.{lt-of-le-of-lt}
 use lib.IntN.{ℤ, pos, negsuc}
-use lib.Dec.{leb, lit<}
-use borrow.Author.Tests.{leb-true}
 use mir.Syntax.{w64}
-use mir.Val.{ofZ, toZ, SFits}
+use mir.Val.{ofZ, toZ}
 use mir.Facts.{toZ-ofZ}
 use Rattle.format.specs.Format.{_⊗_, via, enum, _∣_, nothing, stamp, isTime}
+use Rattle.format.proofs.FormatLaws.{time-fits}
 use Rattle.model.specs.Event.{Text}
 use Rattle.model.specs.Seam.{RequestId}
 use Rattle.model.specs.Seam as seam
@@ -87,10 +85,6 @@ module _ {w o : List ℕ} {p : Progress} (id : RequestId) (outcome : seam.Outcom
 both-inv : (a b : Bool) → a && b ≡ true → (a ≡ true) × (b ≡ true)
 both-inv true b e = (refl, e)
 both-inv false b e = absurd (false≢true e)
-
-time-fits : (z : ℤ) → isTime z ≡ true → SFits w64 z
-time-fits (pos n) e = record { sfits = lt-of-le-of-lt (leb-true n 200_000_000_000_000 (both-inv true (leb n 200_000_000_000_000) e .1)) (lit< tt) }
-time-fits (negsuc n) e = record { sfits = lt-of-le-of-lt (leb-true n 199_999_999_999_999 (both-inv (leb n 199_999_999_999_999) true e .0)) (lit< tt) }
 
 same-time : (z : ℤ) → stamp .Ok z → toZ w64 (ofZ w64 z) ≡ z
 unfolding stamp

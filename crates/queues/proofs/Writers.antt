@@ -1,21 +1,21 @@
 -- Expiry, and the parts of an edit as they are written into a buffer. Assumes nothing.
 use Prim.Native.Nat.{ℕ, suc, _+_, _-_, _^_, _≤_, _<_, Ordering, Ordering·lt, Ordering·eq, Ordering·gt}
-use native.Mathlib.Nat.{lt-of-le-of-lt}
 use native.Mathlib.Omega.{arith}
 use mathlib.Core.Path.{_≡_, refl, sym, ap, ap₂, _∙_, subst}
 use mathlib.Core.List.{List, [], _∷_, _++_}
 use mathlib.Core.Option.{Option, none, some, Option·some-injective, Option·none-ne-some}
 use mathlib.Core.Bool.{Bool, true, false, not, _&&_, false≢true}
-use lib.Dec.{T, isEq, leb, ltb, lit<}
+use lib.Dec.{T, isEq, ltb}
 use lib.IntN.{ℤ, pos, negsuc, _-ℤ_, natAbs}
 use lib.Signed.{leZ, ltZ, nonNeg, mag}
-use borrow.Author.Tests.{leb-true, ltb-true, le-ltb}
+use borrow.Author.Tests.{ltb-true, le-ltb}
 use lib.ListN.{length, take, drop}
 use lib.Seq.{take-at}
 use mir.Syntax.{w64}
 use mir.Val.{ofZ, toZ, Fits, SFits}
 use mir.Facts.{toZ-ofZ}
 use Rattle.format.specs.Format.{Format, Lawful, Got, option, stamp, isTime, text, enum, _∣_, via, nothing, bigEndian, _⊗_}
+use Rattle.format.proofs.FormatLaws.{time-fits}
 use Rattle.spans.specs.Bytes.{zeros}
 use Rattle.model.specs.Event.{Text, ProviderEvent, NormalizedEvent}
 use Rattle.model.specs.Parts as parts
@@ -128,11 +128,6 @@ due-at now at x y q h e f = h ∙ ap₂ leZ e f ∙ rw q
 both-inv : (a b : Bool) → (a && b) ≡ true → (a ≡ true) × (b ≡ true)
 both-inv true b e = (refl, e)
 both-inv false b e = absurd (false≢true e)
-
--- a time fits 64 bits
-time-fits : (z : ℤ) → isTime z ≡ true → SFits w64 z
-time-fits (pos n) e = record { sfits = lt-of-le-of-lt (leb-true n 200_000_000_000_000 (both-inv true (leb n 200_000_000_000_000) e .1)) (lit< tt) }
-time-fits (negsuc n) e = record { sfits = lt-of-le-of-lt (leb-true n 199_999_999_999_999 (both-inv (leb n 199_999_999_999_999) true e .0)) (lit< tt) }
 
 stamp-ok : (z : ℤ) → option stamp .Ok (some z) → isTime z ≡ true
 unfolding option via enum _∣_ stamp

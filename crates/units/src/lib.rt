@@ -156,7 +156,7 @@ fn unit_refused(sheet: Sheet, out: &mut [u8], v: Verdict, k: u8) -> Sheet
     Sheet { pen: p, count: n }
 }
 
-// The units from one to before another.
+// The units from one to before another, in one walk over the three events.
 pub fn units(
     sheet: Sheet,
     out: &mut [u8],
@@ -170,21 +170,31 @@ pub fn units(
 ) -> Sheet
     ensures { λ r. ⌜ Listed (now (out .entry)) (now (out .exit)) (sheet .pen) (sheet .count) (r .pen) (r .count) (unitsItems which owner (now (base .entry)) (now (ours .entry)) (now (theirs .entry)) from (to - from)) ⌝ }
 {
+    let mut b = unit_at(base, from);
+    let mut o = unit_at(ours, from);
+    let mut t = unit_at(theirs, from);
     let mut h = sheet;
     let mut k = from;
     while k < to {
+        let next = k + 1;
         let owned = owned_unit(owner, k);
+        let b_end = skip_unit(b, base, k);
+        let o_end = skip_unit(o, ours, k);
+        let t_end = skip_unit(t, theirs, k);
         h = unit(
             h,
             out,
             which,
             k,
-            unit_part(base, k),
-            unit_part(ours, k),
-            unit_part(theirs, k),
+            comparison::part(base, b.at, b_end.at),
+            comparison::part(ours, o.at, o_end.at),
+            comparison::part(theirs, t.at, t_end.at),
             owned,
         );
-        k += 1;
+        b = b_end;
+        o = o_end;
+        t = t_end;
+        k = next;
     }
     h
 }

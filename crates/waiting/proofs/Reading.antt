@@ -1,6 +1,6 @@
 -- The readers of one entry. Assumes nothing.
 use Prim.Native.Nat.{ℕ, zero, suc, _+_, _-_, _*_, _≤_, _<_}
-use native.Mathlib.Nat.{add-zero, lt-of-le-of-lt, not-suc-le-zero, le-of-suc-le-suc}
+use native.Mathlib.Nat.{add-zero, not-suc-le-zero, le-of-suc-le-suc}
 use native.Mathlib.Omega.{arith}
 use mathlib.Core.Path.{_≡_, refl, sym, ap, ap₂, _∙_, subst}
 use mathlib.Core.List.{List, [], _∷_, _++_, append-assoc}
@@ -10,12 +10,12 @@ use lib.ListN.{length, take, drop, getD, length-append, length-drop, take-append
 use lib.Seq.{getD-take, getD-drop, take-at, drop-at, take-all, drop-drop}
 use lib.IntN.{ℤ, pos, negsuc}
 use lib.Signed.{leZ}
-use lib.Dec.{eqb, leb, lit<}
-use borrow.Author.Tests.{leb-true}
+use lib.Dec.{eqb}
 use mir.Syntax.{w64}
-use mir.Val.{ofZ, toZ, SFits}
+use mir.Val.{ofZ, toZ}
 use mir.Facts.{fits-ofZ, toZ-ofZ}
 use Rattle.format.specs.Format.{All, option, list, stamp, bool, via, below as below-format, enum, _∣_, nothing, text, bigEndian, isTime}
+use Rattle.format.proofs.FormatLaws.{time-fits}
 use Rattle.spans.specs.Bytes.{zeros}
 use Rattle.tables.specs.Table.{flat, offset}
 use Rattle.tables.proofs.Laws as tables
@@ -173,11 +173,6 @@ number-some r w v j k R l = entry-cases r w 5675 255 v j (1 + v) ids-number R (�
 both-inv : (a b : Bool) → (a && b) ≡ true → (a ≡ true) × (b ≡ true)
 both-inv true b e = (refl, e)
 both-inv false b e = absurd (tables.false-true e)
-
--- a time fits 64 bits (as in format's FormatLaws, where it is not pub)
-time-fits : (z : ℤ) → isTime z ≡ true → SFits w64 z
-time-fits (pos n) e = record { sfits = lt-of-le-of-lt (leb-true n 200_000_000_000_000 (both-inv true (leb n 200_000_000_000_000) e .1)) (lit< tt) }
-time-fits (negsuc n) e = record { sfits = lt-of-le-of-lt (leb-true n 199_999_999_999_999 (both-inv (leb n 199_999_999_999_999) true e .0)) (lit< tt) }
 
 time-field : (z : ℤ) → field 9 (option stamp) (some z) ≡ 1 ∷ bigEndian 8 (ofZ w64 z)
 unfolding padded stamp option via enum _∣_

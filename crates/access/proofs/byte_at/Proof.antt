@@ -10,7 +10,7 @@ cast-result : tie.Need-cast-result
 cast-result c = omega (arith, c .shared-slice-known .given (c .before .args .at))
 
 returns : tie.Need-returns
-returns c = search needs
+returns c = (search needs, omega (arith, c .shared-slice-known .given (c .before .args .at)))
 
 pub byte-at-spec : {M : Type 1} → statement M
 byte-at-spec = tie.close (tie.spec shared-slice-read-result cast-result returns)

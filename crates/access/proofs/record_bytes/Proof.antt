@@ -1,6 +1,7 @@
 use denote.Ref.{now}
-use Rattle.access.proofs.Laws.{no-record, record-read, record-room}
+use Rattle.access.proofs.Laws.{no-record, record-read, record-room, event-inside}
 use mathlib.Core.Path.{refl}
+use Prim.Native.Nat.{_+_, _*_}
 use native.Mathlib.Omega.{arith}
 use borrow.Author.Needs.{needs}
 use Rattle.access.proofs.record_bytes.Statement.{statement}
@@ -10,7 +11,7 @@ record-count-requires : tie.Need-record-count-requires
 record-count-requires c κs = search needs
 
 returns : tie.Need-returns
-returns c = (refl, no-record (now (c .before .before .before .args .state)) (c .before .record-count .result) (c .before .before .before .args .i) (c .before .record-count .ensures) (c .if1 .taken))
+returns c = (refl, no-record (now (c .before .before .before .args .state)) (c .before .record-count .result) (c .before .before .before .args .i) (c .before .record-count .ensures) (c .if1 .taken), search needs, search needs)
 
 mul-past : tie.Need-mul-past
 mul-past c = let m = record-room (now (c .before .before .before .args .state)) (c .before .record-count .result) (c .before .before .before .args .i) (c .before .before .before .pre) (c .before .record-count .ensures) (c .if1 .left) in omega arith
@@ -31,7 +32,9 @@ event-end-requires : tie.Need-event-end-requires
 event-end-requires c κs = let m = record-room (now (c .before .before .before .before .args .state)) (c .before .before .record-count .result) (c .before .before .before .before .args .i) (c .before .before .before .before .pre) (c .before .before .record-count .ensures) (c .before .if1 .left) in omega arith
 
 returns-2 : tie.Need-returns-2
-returns-2 c = (refl, record-read (now (c .before .before .before .before .before .args .state)) (c .before .before .before .record-count .result) (c .before .before .before .before .before .args .i) (c .before .byte-at .result) (c .event-end .result) (c .before .before .before .record-count .ensures) (c .before .before .if1 .left) (c .before .byte-at .ensures) (c .event-end .ensures))
+returns-2 c =
+    let m = record-room (now (c .before .before .before .before .before .args .state)) (c .before .before .before .record-count .result) (c .before .before .before .before .before .args .i) (c .before .before .before .before .before .pre) (c .before .before .before .record-count .ensures) (c .before .before .if1 .left) in
+    (refl, record-read (now (c .before .before .before .before .before .args .state)) (c .before .before .before .record-count .result) (c .before .before .before .before .before .args .i) (c .before .byte-at .result) (c .event-end .result) (c .before .before .before .record-count .ensures) (c .before .before .if1 .left) (c .before .byte-at .ensures .0) (c .event-end .ensures), omega arith, event-inside (now (c .before .before .before .before .before .args .state)) (34 + c .before .before .before .before .before .args .i * 915) (c .event-end .result) (omega arith) (c .event-end .ensures))
 
 pub record-bytes-spec : {M : Type 1} → statement M
 record-bytes-spec =

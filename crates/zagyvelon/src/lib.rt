@@ -1,0 +1,115 @@
+// The engine for programs in other languages, as include/bay.h declares it. Each function has the contract of the one that it
+// calls, and asks nothing of what it is lent. A second answer is written through a reference.
+ghost use mathlib.Core.Path.{_≡_};
+ghost use mathlib.Core.Bool.{false};
+ghost use mathlib.Core.Option.{none};
+ghost use Prim.Native.Nat.{_+_, _≤_};
+ghost use lib.ListN.{length};
+ghost use Rattle.lent.specs.Lent.{part};
+ghost use Rattle.frame.specs.Read.{kept};
+ghost use Rattle.model.specs.Maps.{keys};
+ghost use Rattle.model.specs.Limits.{document01, max-effects};
+ghost use Rattle.model.specs.Sizes.{state-length};
+ghost use Rattle.model.specs.Entry.{entry};
+ghost use Rattle.model.specs.Demands.{waiting-count};
+ghost use Rattle.access.specs.Answers.{Answers, Freshened, nth, numbered, record-bytes};
+ghost use Rattle.engine.specs.Answers.{lent, answer};
+
+// The length of a state's buffer and of the work buffer.
+#[no_mangle]
+pub extern "C" fn bay_state_length() -> usize
+    ensures { λ r. ⌜ r ≡ state-length document01 ⌝ }
+{
+    engine::STATE
+}
+
+// The least length of the output buffer.
+#[no_mangle]
+pub extern "C" fn bay_output_length() -> usize
+    ensures { λ r. ⌜ r ≡ max-effects ⌝ }
+{
+    frame::MAX_EFFECTS
+}
+
+#[no_mangle]
+pub extern "C" fn bay_fresh(state: &mut [u8]) -> u8
+    ensures { λ r. ⌜ Freshened (now (state .entry)) (now (state .exit)) r ⌝ }
+{
+    access::fresh(state)
+}
+
+#[no_mangle]
+pub extern "C" fn bay_step(
+    state: &mut [u8],
+    work: &mut [u8],
+    out: &mut [u8],
+    frame: &[u8],
+    length: &mut usize,
+) -> u8
+    ensures { λ r. ⌜ answer (record { code = r; length = now (length .exit) }) (now (state .exit)) (now (work .exit)) (now (out .exit)) ≡ entry document01 (lent (now (state .entry)) (now (work .entry)) (now (out .entry))) (now (frame .entry)) ⌝ }
+{
+    let a = engine::step(state, work, out, frame);
+    *length = a.length;
+    a.code
+}
+
+#[no_mangle]
+pub extern "C" fn bay_waiting_count(state: &[u8], resource: &[u8], count: &mut usize) -> u8
+    ensures { λ r. ⌜ Answers (waiting-count (now (resource .entry))) 0 (now (state .entry)) r (now (count .exit)) ⌝ }
+{
+    let a = access::waiting_count(state, resource);
+    *count = a.count;
+    a.code
+}
+
+#[no_mangle]
+pub extern "C" fn bay_in_flight_at(state: &[u8], i: usize, found: &mut bool, number: &mut u64) -> u8
+    ensures { λ r. ⌜ Answers (λ s. numbered (nth i (keys (s .in-flight)))) (false, 0) (now (state .entry)) r (now (found .exit), now (number .exit)) ⌝ }
+{
+    let a = access::in_flight_at(state, i);
+    *found = a.found;
+    *number = a.number;
+    a.code
+}
+
+// The cursor's text is `extent` bytes of the state, from `at`.
+#[no_mangle]
+pub extern "C" fn bay_cursor(
+    state: &[u8],
+    found: &mut bool,
+    at: &mut usize,
+    extent: &mut usize,
+) -> u8
+    ensures { λ r. ⌜ Answers (λ s. s .cursor) none (now (state .entry)) r (kept (now (found .exit)) (part (now (at .exit)) (now (extent .exit)) (now (state .entry)))) × (now (at .exit) + now (extent .exit) ≤ length (now (state .entry))) ⌝ }
+{
+    let a = access::cursor(state);
+    let text = a.text;
+    *found = a.found;
+    *at = text.at;
+    *extent = text.length;
+    a.code
+}
+
+// The record's name is `size` bytes of the state, from `name`; its event, in the frame's form, `extent` bytes, from `event`.
+#[no_mangle]
+pub extern "C" fn bay_record_at(
+    state: &[u8],
+    i: usize,
+    found: &mut bool,
+    name: &mut usize,
+    size: &mut usize,
+    event: &mut usize,
+    extent: &mut usize,
+) -> u8
+    ensures { λ r. ⌜ Answers (λ s. record-bytes (nth i (s .records))) none (now (state .entry)) r (kept (now (found .exit)) (part (now (name .exit)) (now (size .exit)) (now (state .entry)), part (now (event .exit)) (now (extent .exit)) (now (state .entry)))) × (now (name .exit) + now (size .exit) ≤ length (now (state .entry))) × (now (event .exit) + now (extent .exit) ≤ length (now (state .entry))) ⌝ }
+{
+    let a = access::record_at(state, i);
+    let named = a.name;
+    let held = a.event;
+    *found = a.found;
+    *name = named.at;
+    *size = named.length;
+    *event = held.at;
+    *extent = held.length;
+    a.code
+}

@@ -1,0 +1,53 @@
+/* Document 01's example from C: takes its five frames one by one, and prints each result number and the effects' bytes. */
+#include <stdio.h>
+
+#include "bay.h"
+
+static uint8_t state[BAY_STATE_LENGTH];
+static uint8_t work[BAY_STATE_LENGTH];
+static uint8_t output[BAY_OUTPUT_LENGTH];
+
+static const uint8_t sync_now[] = {0x00};
+/* request 0 listed nothing, and is done at cursor "A" */
+static const uint8_t listed[] = {0x02, 0, 0, 0, 0, 0, 0, 0, 0, 0x00, 0x00, 0x01, 0x01, 'A'};
+static const uint8_t tick[] = {0x03, 0, 0, 0, 0, 0, 0, 0, 5};
+/* edit "a" deletes "r", by the owner, expiring at 5 */
+static const uint8_t edit[] = {0x01, 1, 'a', 1, 'r', 0x02, 0x00, 0x01, 0, 0, 0, 0, 0, 0, 0, 5};
+static const uint8_t no_input[] = {0x05};
+
+static void step(const char *what, const uint8_t *frame, size_t frame_length)
+{
+    size_t length;
+    uint8_t result = bay_step(state, sizeof state, work, sizeof work, output, sizeof output,
+                              frame, frame_length, &length);
+    printf("%s: result %u, effects ", what, result);
+    for (size_t i = 0; i < length; i++)
+        printf("%02x", output[i]);
+    printf(length == 0 ? "none\n" : "\n");
+}
+
+static void print_cursor(void)
+{
+    bool found;
+    size_t at, length;
+    uint8_t result = bay_cursor(state, sizeof state, &found, &at, &length);
+    if (result == BAY_ACCEPTED && found)
+        printf("cursor: %.*s\n", (int)length, (const char *)state + at);
+}
+
+int main(void)
+{
+    if (bay_state_length() != BAY_STATE_LENGTH || bay_output_length() != BAY_OUTPUT_LENGTH) {
+        fprintf(stderr, "bay.h and libzagyvelon.a do not belong together\n");
+        return 1;
+    }
+    if (bay_fresh(state, sizeof state) != BAY_ACCEPTED)
+        return 1;
+    step("sync", sync_now, sizeof sync_now);
+    step("listed", listed, sizeof listed);
+    step("tick", tick, sizeof tick);
+    step("edit", edit, sizeof edit);
+    step("no input", no_input, sizeof no_input);
+    print_cursor();
+    return 0;
+}

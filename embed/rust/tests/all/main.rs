@@ -1,0 +1,5 @@
+//! The tests of this crate, on the archive itself.
+
+mod engine;
+mod frames;
+mod random;

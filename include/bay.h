@@ -1,0 +1,108 @@
+/*
+ * The loading-bay calendar engine, from C and C++: link libzagyvelon.a (`rt staticlib zagyvelon`), which needs nothing but
+ * memcpy, memmove and memset. x86-64 Linux.
+ *
+ * A step takes one input frame and gives the effects to perform, in order. What frames and effects look like is the frame
+ * rule: fields follow in source order; an enum starts with one byte, its case's place counted from 0; an option with 0 or 1; a
+ * list with a count byte; text is a length byte and UTF-8; whole numbers are big-endian and as wide as their type.
+ *
+ * Buffers. The caller owns every buffer and lends it for one call; the engine keeps no pointer and allocates nothing. Between
+ * calls the whole state is the state buffer: it may be copied, moved, and saved and loaded as bytes on the same version of
+ * the engine. Equal states have equal bytes.
+ *
+ * Pointers. No pointer may be null, not even with the length 0. Every pointer is valid for as many bytes as the length beside it
+ * says, or for the one value that it points to. A buffer or value that a call writes may overlap no other that the call is
+ * given. The bytes may be any bytes, and the lengths any lengths: nothing else is asked of the caller.
+ *
+ * Threads. There are no globals. Calls on different buffers may run at the same time; calls that read one state may, too,
+ * while nobody writes it. A step needs its state, work and output for itself.
+ *
+ * Every function ends, touches no memory but what it is lent, and is proved to give exactly the results described here.
+ */
+#ifndef BAY_H
+#define BAY_H
+
+#include <stdbool.h>
+#include <stddef.h>
+#include <stdint.h>
+
+#ifdef __cplusplus
+extern "C" {
+#endif
+
+/* The length of a state's buffer and of a work buffer, and the least length of an output buffer. */
+#define BAY_STATE_LENGTH 58543
+#define BAY_OUTPUT_LENGTH 32768
+
+/* The same numbers from the archive, for a program that checks at its start that header and archive belong together. */
+size_t bay_state_length(void);
+size_t bay_output_length(void);
+
+/*
+ * What every other function returns: 0, or the refusal. Checks run 1, 2, 3; the others are met as the step goes.
+ * After a refusal the state's bytes are as they were.
+ */
+enum {
+    BAY_ACCEPTED = 0,
+    BAY_LENGTH = 1,          /* a lent buffer's length is wrong */
+    BAY_STATE = 2,           /* the bytes are not those of a well-formed state */
+    BAY_FRAME = 3,           /* the bytes are not exactly one input frame */
+    BAY_REQUEST_NUMBERS = 4, /* no request number is left */
+    BAY_TABLE = 5,           /* a table would need one entry more than its limit */
+    BAY_ATTENDEES = 6,       /* the merged event would have over 8 attendees */
+    BAY_EFFECTS = 7          /* the effects would pass 32,768 bytes */
+};
+
+/*
+ * Makes the buffer a fresh state: no records, no cursor, nothing waiting. Whatever it held is lost.
+ * Returns BAY_ACCEPTED, or BAY_LENGTH if state_length is not BAY_STATE_LENGTH; the buffer is then untouched.
+ */
+uint8_t bay_fresh(uint8_t *state, size_t state_length);
+
+/*
+ * One step: takes the input in `frame`, brings the state up to date, and writes the effects back to back from the output's first
+ * byte; *effects_length is how many bytes they take.
+ *
+ * state_length and work_length must be BAY_STATE_LENGTH and output_length at least BAY_OUTPUT_LENGTH, else BAY_LENGTH is
+ * returned and no buffer is touched. What work and output hold before the call does not matter. After every other call the
+ * work buffer is zero and the output is zero past the effects. After a refusal *effects_length is 0.
+ */
+uint8_t bay_step(uint8_t *state, size_t state_length,
+                 uint8_t *work, size_t work_length,
+                 uint8_t *output, size_t output_length,
+                 const uint8_t *frame, size_t frame_length,
+                 size_t *effects_length);
+
+/*
+ * The reading functions. Each returns BAY_ACCEPTED, BAY_LENGTH or BAY_STATE, and writes nothing but its results. After a
+ * refusal *count and *number are 0 and *found is false. What is found stands in the state's own bytes, at a place and with a
+ * length that end within the state, until the state is next written: the cursor's text is the cursor_length bytes from
+ * state + cursor_at. Places mean nothing where *found is false.
+ */
+
+/* How many edits wait for the resource. Bytes that are no resource's name have none waiting. */
+uint8_t bay_waiting_count(const uint8_t *state, size_t state_length,
+                          const uint8_t *resource, size_t resource_length,
+                          size_t *count);
+
+/* The number of the request in flight at this place, from 0, in rising order; none past the last: *found is false. */
+uint8_t bay_in_flight_at(const uint8_t *state, size_t state_length, size_t place,
+                         bool *found, uint64_t *number);
+
+/* Where the cursor's text is, if there is a cursor. */
+uint8_t bay_cursor(const uint8_t *state, size_t state_length,
+                   bool *found, size_t *cursor_at, size_t *cursor_length);
+
+/*
+ * Where the record at this place is, from 0, in byte order of their resources; none past the last: *found is false. Its
+ * resource's name is text without a length byte; its event has the frame's form.
+ */
+uint8_t bay_record_at(const uint8_t *state, size_t state_length, size_t place,
+                      bool *found, size_t *name_at, size_t *name_length,
+                      size_t *event_at, size_t *event_length);
+
+#ifdef __cplusplus
+}
+#endif
+
+#endif
