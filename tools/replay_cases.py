@@ -2,9 +2,9 @@
 """Writes the list that the program `replay` runs, and what it must print: replay_cases.py FOLDER SEEDS STEPS TIMES [PROFILE:SEED:FRAMES ..]
 
 Of the judge's runs (judge.py) of STEPS frames from a fresh state with the seeds 1 to SEEDS in each of its six profiles, it takes as much as it
-needs for each of the listed situations (`judge reach`) to be reached in TIMES runs, or in as many as there are: first so many frames of the runs that
-are named, then again and again the frames that reach the most of what is still wanted for their bytes, from a run's start or on from where it was
-cut. FOLDER/stdin gets the frames with the judge's answers (crates/replay/src/main.rt says in what form), FOLDER/stdout a line for each run.
+needs for each of the listed situations (`judge reach`) to be reached in TIMES runs, or in as many as there are: again and again the frames that
+reach the most of what is still wanted for their bytes, from a run's start or on from where it was cut. Of the runs that are named it then takes so many
+frames at the least. FOLDER/stdin gets the frames with the judge's answers (crates/replay/src/main.rt says in what form), FOLDER/stdout a line for each run.
 
 crates/replay has what these words give. The runs named tell slips in the engine that the others let pass:
 100 500 2 limits:62:149 mixed:98:37 passes:13:15 passes:32:47 damage:7:67 mixed:27:12 queues:36:68 limits:85:4
@@ -41,7 +41,7 @@ class Run:
         for frame, situation in self.first:
             if self.taken < frame <= frames and wanted[situation]:
                 wanted[situation] -= 1
-        self.taken = max(self.taken, frames)
+        self.taken = frames
 
 def reach(seeds, steps):
     """The runs, and the situations that none of them reaches."""
@@ -65,11 +65,11 @@ def choose(runs, times, named):
     for run in runs:
         for _, situation in run.first:
             wanted[situation] = min(times, wanted.get(situation, 0) + 1)
-    for run in runs:
-        run.take(named.get(run.name, 0), wanted)
     while any(wanted.values()):
         run = max(runs, key=lambda r: r.best(wanted))
         run.take(run.best(wanted)[1], wanted)
+    for run in runs:
+        run.taken = max(run.taken, named.get(run.name, 0))
     return [run for run in runs if run.taken]
 
 def main():

@@ -2,7 +2,6 @@
 pub use calendar_sync_engine as plain;
 pub use calendar_sync_engine_limited as limited;
 
-mod bench;
 mod checks;
 mod cover;
 mod engine;
@@ -28,10 +27,9 @@ const USAGE: &str = "usage:
   judge cover --seed A..B --steps N [--profile P] [--wild]  the situations that these frames reach
   judge reach --seed A..B --steps N [--profile P]  for each run the listed situations that it reaches, a line each:
               profile, seed, the frame that first reaches it, situation; then, after '-', the ones that no run reaches
-  judge check [--frames]                       document 01's lines, against the published Rust; with the frames used
-  judge bench [--seed S] [--steps N] [--profile P] [--rounds R]  nanoseconds a step";
+  judge check [--frames]                       document 01's lines, against the published Rust; with the frames used";
 
-pub struct Args(Vec<String>);
+struct Args(Vec<String>);
 
 impl Args {
     fn value(&self, name: &str) -> Option<&str> {
@@ -51,12 +49,12 @@ impl Args {
         self.value("--profile").unwrap_or("mixed")
     }
 
-    fn steps(&self, default: u64) -> usize {
-        self.number("--steps", default) as usize
+    fn steps(&self) -> usize {
+        self.number("--steps", 1000) as usize
     }
 }
 
-pub fn die(message: &str) -> ! {
+fn die(message: &str) -> ! {
     eprintln!("{message}");
     std::process::exit(2)
 }
@@ -73,7 +71,6 @@ fn main() -> ExitCode {
         "cover" => cover(&args, &mut out),
         "reach" => reach(&args, &mut out),
         "check" => checks::run(&mut out, args.has("--frames")),
-        "bench" => bench::run(&args, &mut out),
         _ => die(USAGE),
     };
     // Only a reader that has gone away makes writing fail.
@@ -143,7 +140,7 @@ fn describe(n: usize, line: &[u8], answer: &Answer, engine: &Engine) {
 fn generate(args: &Args, out: &mut impl Write) -> io::Result<bool> {
     let mut engine = start(args);
     engine.check = false;
-    let lines = frames::generate(engine, args.number("--seed", 1), args.steps(1000), args.profile(), None);
+    let lines = frames::generate(engine, args.number("--seed", 1), args.steps(), args.profile(), None);
     for line in lines.unwrap_or_else(|| die(USAGE)) {
         out.write_all(&line)?;
         out.write_all(b"\n")?;
@@ -177,7 +174,7 @@ fn cover(args: &Args, out: &mut impl Write) -> io::Result<bool> {
         } else {
             Engine::new(true)
         };
-        frames::generate(engine, seed, args.steps(1000), profile, Some(&mut cover)).unwrap_or_else(|| die(USAGE));
+        frames::generate(engine, seed, args.steps(), profile, Some(&mut cover)).unwrap_or_else(|| die(USAGE));
     }
     cover.print(out)
 }
@@ -186,7 +183,7 @@ fn reach(args: &Args, out: &mut impl Write) -> io::Result<bool> {
     let mut missed = cover::wanted();
     for (profile, seed) in runs(args) {
         let mut cover = Cover::default();
-        frames::generate(Engine::new(true), seed, args.steps(1000), profile, Some(&mut cover))
+        frames::generate(Engine::new(true), seed, args.steps(), profile, Some(&mut cover))
             .unwrap_or_else(|| die(USAGE));
         missed.retain(|w| cover.first(w).is_none());
         for situation in cover::wanted() {
