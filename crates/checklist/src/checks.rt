@@ -134,14 +134,20 @@ pub fn cursor_is(state: &State, cursor: &[u8]) -> bool {
     is_part(state, r.text, cursor)
 }
 
-// How many edits wait for the booking.
-pub fn waiting(state: &State) -> usize {
+// Whether there is no cursor.
+pub fn no_cursor(state: &State) -> bool {
+    let r = access::cursor(state);
+    r.code == 0 && !r.found
+}
+
+// Whether so many edits wait for the booking.
+pub fn wait(state: &State, n: usize) -> bool {
     let r = access::waiting_count(state, b"bay 1");
-    r.count
+    r.code == 0 && r.count == n
 }
 
 // Whether no request is in flight.
 pub fn nothing_in_flight(state: &State) -> bool {
     let r = access::in_flight_at(state, 0);
-    !r.found
+    r.code == 0 && !r.found
 }

@@ -31,7 +31,7 @@ fn passed_checks(state: &State, effects: &[u8]) -> bool {
         checks::told(effects, b"late") == 1 && checks::sent(effects, b"\x01\x04\x04late") == 1,
     );
     let unsent = print::check(b"it is not sent", checks::written(effects) == 0);
-    let none = print::check(b"no edit waits", checks::waiting(state) == 0);
+    let none = print::check(b"no edit waits", checks::wait(state, 0));
     expired && unsent && none
 }
 

@@ -60,7 +60,7 @@ fn ended(state: &State, log: &[u8]) -> bool {
     );
     let none = print::check(
         b"no edit waits and nothing is in flight",
-        checks::waiting(state) == 0 && checks::nothing_in_flight(state),
+        checks::wait(state, 0) && checks::nothing_in_flight(state),
     );
     twice && last && none
 }
@@ -76,7 +76,7 @@ pub fn walk() -> bool {
     let moved = three_moves(&mut state, &mut log, open);
     let two = print::check(
         b"two edits wait for the booking, the third is in the second",
-        checks::waiting(&state) == 2,
+        checks::wait(&state, 2),
     );
     let end = answered(&mut state, &mut log, moved);
     let effects = mill::effects(&log, mill::start(), end);

@@ -33,7 +33,7 @@ fn after_page(state: &State, effects: &[u8]) -> bool {
     );
     let open = print::check(
         b"Synced is not told yet, and there is no cursor yet",
-        checks::sent(effects, b"\x01\0") == 0 && !checks::cursor_is(state, b"monday"),
+        checks::sent(effects, b"\x01\0") == 0 && checks::no_cursor(state),
     );
     kept && again && open
 }
