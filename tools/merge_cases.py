@@ -4,7 +4,7 @@
 FOLDER/stdin gets the cases back to back (base, ours, theirs, role, as they stand in a frame), FOLDER/stdout a line for each: 06 where the
 merged event has over 8 attendees, else 01 or 00 (changed or not), the merged event where it changed, the conflicts and the refused
 list, in hexadecimal. The judge answers them (judge.py): each case runs from a fresh state, an update of base and ours, the read of theirs,
-and the write's reply. crates/merge_replay has the 230 cases of seed 7.
+and the write's reply. The first cases are document 01's merge lines, by hand. crates/merge_replay has these and the 230 cases of seed 7.
 """
 import random, sys
 import judge
@@ -47,6 +47,33 @@ def case(r):
     role = b"\0" if r.random() < 0.6 else b"\1" + text(r.choice(ADDRESSES))
     return base, ours, event, role
 
+OWNER, ATTENDEE = b"\0", b"\1" + text("A@m")
+
+def entry(address, reply=0, name=None): return text(address) + opt(name, text) + bytes([0, reply, 0])
+
+def plain(times, *entries):
+    """Fields with these times and entries, and nothing else."""
+    return b"\0" + num(times) + b"\0\0" + bytes([len(entries)]) + b"".join(entries) + bytes(5) + num(0)
+
+def merge(role, base, ours, theirs): return base, ours, b"\0" + text("r") + bytes(7) + theirs + num(0), role
+
+def document01():
+    """Document 01's merge lines: the verdicts, occurrences of one address, the writer's own entry, folding, the address shown, over 8 attendees."""
+    eight = [entry("%d@m" % i) for i in range(8)]
+    def both(first, second): return plain(0, entry("A@m", first), entry("a@m", second))
+    yield from (merge(OWNER, plain(1), plain(ours), plain(theirs)) for ours, theirs in ((1, 2), (2, 1), (2, 3), (2, 2)))
+    yield from (merge(ATTENDEE, plain(1), plain(2), plain(theirs)) for theirs in (3, 2))
+    yield merge(OWNER, both(0, 0), both(0, 1), both(0, 0))
+    yield merge(ATTENDEE, both(0, 0), both(2, 1), both(0, 0))
+    yield merge(ATTENDEE, plain(0, entry("a@m")), plain(0, entry("a@m", 2, "Ann")), plain(0))
+    for address in ("Z@m", "[", "@", "a@mm"):
+        yield merge(b"\1" + text(address), plain(0, entry("z@m"), entry("{"), entry("`"), entry("a@m")),
+                    plain(0, entry("z@m", 1), entry("{", 1), entry("`", 1), entry("a@m", 1)), plain(0, entry("z@m"), entry("{"), entry("`"), entry("a@m")))
+    yield merge(OWNER, plain(0, entry("a@m")), plain(0, entry("A@m", 1)), plain(0, entry("a@M", 2)))
+    yield merge(OWNER, plain(0, entry("a@m")), plain(0, entry("A@m", 1)), plain(0))
+    yield merge(OWNER, plain(0, entry("a@m")), plain(0), plain(0, entry("a@M", 2)))
+    yield from (merge(role, plain(0), plain(0, entry("9@m")), plain(0, *eight)) for role in (OWNER, ATTENDEE))
+
 def steps(frames):
     """Of each frame the answer's number, and the effects."""
     return [(int(lines[0][:2], 16), [bytes.fromhex(l.decode()) for l in lines[1:]]) for lines in judge.answers([f.hex().encode() for f in frames])]
@@ -72,7 +99,7 @@ def answer(base, ours, event, role):
 def main():
     seed, count, folder = int(sys.argv[1]), int(sys.argv[2]), sys.argv[3]
     r = random.Random(seed)
-    cases = [case(r) for _ in range(count)]
+    cases = list(document01()) + [case(r) for _ in range(count)]
     lines = [answer(*c) for c in cases]
     data = b"".join(b"".join(c) for c in cases)
     assert len(data) <= 65536, len(data)

@@ -8,86 +8,39 @@ use frame::U32;
 // Enums whose cases hold nothing
 impl Words {
     pub fn provider(self, out: &mut [u8], s: &[u8]) -> Words {
-        let case = self.case(out, s, b"provider", 3);
-        let words = case.words;
-        let k = case.value;
-        match k {
-            0 => words.item(out, b"Google"),
-            1 => words.item(out, b"Graph"),
-            2 => words.item(out, b"CalDav"),
-            _ => words.item(out, b"Ics"),
-        }
+        let names = b"Google\nGraph\nCalDav\nIcs";
+        self.one_of(out, s, b"provider", 3, names)
     }
 
     pub fn status(self, out: &mut [u8], s: &[u8]) -> Words {
-        let case = self.case(out, s, b"status", 2);
-        let words = case.words;
-        let k = case.value;
-        match k {
-            0 => words.item(out, b"status Confirmed"),
-            1 => words.item(out, b"status Tentative"),
-            _ => words.item(out, b"status Cancelled"),
-        }
+        let names = b"status Confirmed\nstatus Tentative\nstatus Cancelled";
+        self.one_of(out, s, b"status", 2, names)
     }
 
     pub fn transparency(self, out: &mut [u8], s: &[u8]) -> Words {
-        let case = self.case(out, s, b"transparency", 1);
-        let words = case.words;
-        let k = case.value;
-        match k {
-            0 => words.item(out, b"transparency Opaque"),
-            _ => words.item(out, b"transparency Transparent"),
-        }
+        let names = b"transparency Opaque\ntransparency Transparent";
+        self.one_of(out, s, b"transparency", 1, names)
     }
 
     pub fn visibility(self, out: &mut [u8], s: &[u8]) -> Words {
-        let case = self.case(out, s, b"visibility", 3);
-        let words = case.words;
-        let k = case.value;
-        match k {
-            0 => words.item(out, b"visibility Default"),
-            1 => words.item(out, b"visibility Public"),
-            2 => words.item(out, b"visibility Private"),
-            _ => words.item(out, b"visibility Confidential"),
-        }
+        let names =
+            b"visibility Default\nvisibility Public\nvisibility Private\nvisibility Confidential";
+        self.one_of(out, s, b"visibility", 3, names)
     }
 
     fn attendee_role(self, out: &mut [u8], s: &[u8]) -> Words {
-        let case = self.case(out, s, b"attendee role", 3);
-        let words = case.words;
-        let k = case.value;
-        match k {
-            0 => words.item(out, b"Required"),
-            1 => words.item(out, b"Optional"),
-            2 => words.item(out, b"Chair"),
-            _ => words.item(out, b"NonParticipant"),
-        }
+        let names = b"Required\nOptional\nChair\nNonParticipant";
+        self.one_of(out, s, b"attendee role", 3, names)
     }
 
     fn participation(self, out: &mut [u8], s: &[u8]) -> Words {
-        let case = self.case(out, s, b"participation", 4);
-        let words = case.words;
-        let k = case.value;
-        match k {
-            0 => words.item(out, b"NeedsAction"),
-            1 => words.item(out, b"Accepted"),
-            2 => words.item(out, b"Declined"),
-            3 => words.item(out, b"Tentative"),
-            _ => words.item(out, b"Delegated"),
-        }
+        let names = b"NeedsAction\nAccepted\nDeclined\nTentative\nDelegated";
+        self.one_of(out, s, b"participation", 4, names)
     }
 
     fn kind(self, out: &mut [u8], s: &[u8]) -> Words {
-        let case = self.case(out, s, b"participant kind", 4);
-        let words = case.words;
-        let k = case.value;
-        match k {
-            0 => words.item(out, b"Individual"),
-            1 => words.item(out, b"Group"),
-            2 => words.item(out, b"Resource"),
-            3 => words.item(out, b"Room"),
-            _ => words.item(out, b"Unknown"),
-        }
+        let names = b"Individual\nGroup\nResource\nRoom\nUnknown";
+        self.one_of(out, s, b"participant kind", 4, names)
     }
 }
 

@@ -1,4 +1,5 @@
 // seam.rs's outcomes and sync.rs's inputs in words.
+use crate::names;
 use crate::places::Words;
 use crate::places::start;
 use frame::MAX_CHANGES;
@@ -62,12 +63,9 @@ impl Words {
     fn next_page(self, out: &mut [u8], s: &[u8]) -> Words {
         let case = self.case(out, s, b"end of a page", 1);
         let words = case.words;
-        if case.value == 0 {
-            return words
-                .begin(out, b"more from ")
-                .short_text(out, s, b"cursor");
-        }
-        words.begin(out, b"done at ").short_text(out, s, b"cursor")
+        words
+            .begin(out, names::nth(b"more from \ndone at ", case.value))
+            .short_text(out, s, b"cursor")
     }
 
     fn page(self, out: &mut [u8], s: &[u8]) -> Words {
@@ -89,16 +87,13 @@ impl Words {
         let case = self.case(out, s, b"failure", 5);
         let words = case.words;
         let k = case.value;
-        match k {
-            0 => words.item(out, b"CursorExpired"),
-            1 => words.item(out, b"PreconditionFailed"),
-            2 => words.item(out, b"NotFound"),
-            3 => words.item(out, b"AlreadyExists"),
-            4 => words.item(out, b"Transient"),
-            _ => words
+        if k == 5 {
+            return words
                 .begin(out, b"Rejected, ")
-                .text(out, s, b"reason", MAX_REASON),
+                .text(out, s, b"reason", MAX_REASON);
         }
+        let names = b"CursorExpired\nPreconditionFailed\nNotFound\nAlreadyExists\nTransient";
+        words.item(out, names::nth(names, k))
     }
 
     fn outcome(self, out: &mut [u8], s: &[u8]) -> Words {

@@ -2,6 +2,7 @@
 // once; no name can break a line, as every control character in a text is shown by its number.
 mod events;
 mod inputs;
+mod names;
 mod notices;
 mod places;
 mod refusals;

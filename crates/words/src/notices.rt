@@ -1,4 +1,5 @@
 // sync.rs's notices and effects in words.
+use crate::names;
 use crate::places::Words;
 use crate::places::start;
 use frame::MAX_ID;
@@ -16,14 +17,12 @@ impl Words {
         let case = self.case(out, s, b"rejection", 3);
         let words = case.words;
         let k = case.value;
-        match k {
-            0 => words.item(out, b"Gone"),
-            1 => words.item(out, b"Exists"),
-            2 => words.item(out, b"NotOwner"),
-            _ => words
+        if k == 3 {
+            return words
                 .item(out, b"Provider")
-                .text(out, s, b"reason", MAX_REASON),
+                .text(out, s, b"reason", MAX_REASON);
         }
+        words.item(out, names::nth(b"Gone\nExists\nNotOwner", k))
     }
 
     fn notice(self, out: &mut [u8], s: &[u8]) -> Words {

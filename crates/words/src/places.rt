@@ -1,5 +1,6 @@
 // A place in the bytes that are read and a place in the text that is written, moved on together. Where the bytes are not what they should
 // be, the text says so, and nothing is read or said from there on.
+use crate::names;
 use crate::stops;
 use crate::stops::Says;
 use crate::writing::decimal;
@@ -206,6 +207,13 @@ impl Words {
     // Which case of `what` follows, counted from 0.
     pub fn case(self, out: &mut [u8], s: &[u8], what: &[u8], last: u8) -> Chosen {
         self.byte(out, s, Says::Case, what, last)
+    }
+
+    // A case that holds nothing, by its name.
+    pub fn one_of(self, out: &mut [u8], s: &[u8], what: &[u8], last: u8, names: &[u8]) -> Words {
+        let case = self.case(out, s, what, last);
+        let words = case.words;
+        words.item(out, names::nth(names, case.value))
     }
 
     // Whether `what` follows: 0 or 1.

@@ -1,18 +1,13 @@
 // Document 01's refusals in words.
+use crate::names;
 use crate::writing::decimal;
 use pens::Pen;
 
+// Line k, from 1 on, is refusal k.
 fn meaning(pen: Pen, out: &mut [u8], code: u8) -> Pen {
-    match code {
-        1 => pen.part(out, b"a lent buffer has a wrong length"),
-        2 => pen.part(out, b"the bytes are not a well-formed state"),
-        3 => pen.part(out, b"not exactly one input frame"),
-        4 => pen.part(out, b"no request numbers are left"),
-        5 => pen.part(out, b"a table needs one entry more than its limit"),
-        6 => pen.part(out, b"the merged event has over 8 attendees"),
-        7 => pen.part(out, b"the effects take over 32768 bytes"),
-        _ => pen.part(out, b"no such refusal"),
-    }
+    let meanings =
+        b"no refusal\na lent buffer has a wrong length\nthe bytes are not a well-formed state\nnot exactly one input frame\nno request numbers are left\na table needs one entry more than its limit\nthe merged event has over 8 attendees\nthe effects take over 32768 bytes";
+    pen.part(out, names::nth(meanings, code))
 }
 
 // What the engine answered: 0, or a refusal's number.

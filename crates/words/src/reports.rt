@@ -4,22 +4,9 @@ use frame::MAX_COUNT;
 
 impl Words {
     fn field(self, out: &mut [u8], s: &[u8]) -> Words {
-        let case = self.case(out, s, b"field", 10);
-        let words = case.words;
-        let k = case.value;
-        match k {
-            0 => words.item(out, b"Title"),
-            1 => words.item(out, b"Times"),
-            2 => words.item(out, b"Recurrence"),
-            3 => words.item(out, b"Organizer"),
-            4 => words.item(out, b"Attendees"),
-            5 => words.item(out, b"Location"),
-            6 => words.item(out, b"Description"),
-            7 => words.item(out, b"Status"),
-            8 => words.item(out, b"Transparency"),
-            9 => words.item(out, b"Visibility"),
-            _ => words.item(out, b"Reminders"),
-        }
+        let names =
+            b"Title\nTimes\nRecurrence\nOrganizer\nAttendees\nLocation\nDescription\nStatus\nTransparency\nVisibility\nReminders";
+        self.one_of(out, s, b"field", 10, names)
     }
 
     // The entry of which attendee it is about, if of one.
