@@ -1,11 +1,5 @@
-// Damaged copies of good frames.
-use crate::frames::event;
-use crate::frames::first;
-use crate::frames::full_edit;
-use crate::frames::page;
-use crate::frames::reply;
-use crate::frames::starts;
-use crate::frames::text;
+// Damaged copies of a good frame.
+use frame::Parsed;
 use pens::Pen;
 use printing::end;
 use printing::number;
@@ -21,6 +15,17 @@ fn bit(b: bool) -> usize
         return 1;
     }
     0
+}
+
+// Whether the first `end` bytes are a frame.
+fn starts(out: &[u8], end: usize) -> bool {
+    if out.len() < end {
+        return false;
+    }
+    match frame::parse(&out[0..end]) {
+        Parsed::Frame(_) => true,
+        Parsed::NoFrame => false,
+    }
 }
 
 // How many proper prefixes of the first `end` bytes are frames.
@@ -95,7 +100,7 @@ fn longer(out: &mut [u8], end: usize) -> usize {
     zero + values_at(out, more.at, end)
 }
 
-fn copies_of(label: &[u8], out: &mut [u8], pen: Pen) {
+pub fn copies_of(label: &[u8], out: &mut [u8], pen: Pen) {
     let end_at = pen.at;
     say(label, pen.ok && starts(out, end_at));
     number(b", bytes", end_at);
@@ -103,35 +108,4 @@ fn copies_of(label: &[u8], out: &mut [u8], pen: Pen) {
     number(b", with a byte more", longer(out, end_at));
     number(b", with a byte changed", changes(out, end_at));
     end();
-}
-
-fn inputs() {
-    let mut out = [0u8; 256];
-    let sync = first().byte(&mut out, 0);
-    copies_of(b"sync", &mut out, sync);
-    let edit = full_edit(&mut out, 13, 1);
-    copies_of(b"edit", &mut out, edit);
-    let tick = first().byte(&mut out, 3).number(&mut out, 5);
-    copies_of(b"tick", &mut out, tick);
-    let resume = first().byte(&mut out, 4);
-    copies_of(b"resume", &mut out, resume);
-}
-
-fn replies() {
-    let mut out = [0u8; 256];
-    let listed = page(&mut out, 2);
-    copies_of(b"listed", &mut out, listed);
-    let some = reply(&mut out, 1).byte(&mut out, 1);
-    let read = event(some, &mut out, 13, 1);
-    copies_of(b"read", &mut out, read);
-    let deleted = reply(&mut out, 3);
-    copies_of(b"deleted", &mut out, deleted);
-    let reason = reply(&mut out, 4).byte(&mut out, 5);
-    let rejected = text(reason, &mut out, 2);
-    copies_of(b"rejected", &mut out, rejected);
-}
-
-pub fn copies() {
-    inputs();
-    replies();
 }
