@@ -11,7 +11,6 @@ use printing::end;
 use printing::number;
 use printing::say;
 use printing::show;
-ghost use mathlib.Core.Path.{_≡_};
 ghost use Prim.Native.Nat.{_≤_};
 ghost use lib.ListN.{length};
 
@@ -88,15 +87,8 @@ fn run(list: &[u8])
     }
 }
 
-// Room for the list.
-fn room() -> [u8; 65536]
-    ensures { λ r. ⌜ 65536 ≡ length r ⌝ }
-{
-    [0; 65536]
-}
-
 fn main() {
-    let mut space = room();
+    let mut space = io::large_buffer();
     let n = io::read_full(0, &mut space);
     run(&space[..n]);
 }
