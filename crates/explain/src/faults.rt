@@ -40,13 +40,13 @@ pub fn fault(pen: Pen, text: &mut [u8], line: &[u8]) -> Pen {
         return no_digit(pen, text, at, line[at]);
     }
     let odd = pen.part(text, b"an odd number of digits, ");
-    words::decimal(odd, text, at as u64)
+    phrases::decimal(odd, text, at as u64)
 }
 
 fn no_digit(pen: Pen, text: &mut [u8], at: usize, c: u8) -> Pen {
-    let column = words::decimal(pen.part(text, b"column "), text, after(at));
+    let column = phrases::decimal(pen.part(text, b"column "), text, after(at));
     let found: [u8; 1] = [c];
-    let shown = words::quoted(column.part(text, b": "), text, &found);
+    let shown = phrases::quoted(column.part(text, b": "), text, &found);
     shown.part(text, b" is not a lowercase hexadecimal digit")
 }
 

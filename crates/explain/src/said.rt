@@ -21,7 +21,7 @@ pub fn explain(state: &mut [u8], number: u64, line: &[u8]) {
 // The first words of a printed line.
 fn head(text: &mut [u8], number: u64, what: &[u8]) -> Pen {
     let start = Pen { at: 0, ok: true };
-    let counted = words::decimal(start.part(text, b"line "), text, number);
+    let counted = phrases::decimal(start.part(text, b"line "), text, number);
     counted.part(text, b", ").part(text, what).part(text, b": ")
 }
 

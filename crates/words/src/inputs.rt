@@ -1,186 +1,182 @@
 // seam.rs's outcomes and sync.rs's inputs in words.
-use crate::names;
-use crate::places::Words;
-use crate::places::start;
+use crate::requests::resource;
 use frame::MAX_CHANGES;
 use frame::MAX_ID;
 use frame::MAX_REASON;
 use frame::U64;
 use pens::Pen;
+use phrases::Words;
+use phrases::nth;
 
 // Outcomes
-impl Words {
-    fn change(self, out: &mut [u8], s: &[u8]) -> Words {
-        let case = self.case(out, s, b"change", 1);
-        let words = case.words;
-        if case.value == 1 {
-            return words
-                .begin(out, b"remove ")
-                .text(out, s, b"resource", MAX_ID);
-        }
-        words.upsert(out, s)
-    }
 
-    fn upsert(self, out: &mut [u8], s: &[u8]) -> Words {
-        self.begin(out, b"upsert ")
-            .text(out, s, b"resource", MAX_ID)
-            .say(out, b" [")
-            .listed(out, s)
-    }
+// An event, behind what was done with it.
+fn event(words: Words, out: &mut [u8], s: &[u8], verb: &[u8]) -> Words {
+    words.begin(out, verb).event(out, s)
+}
 
-    // What a listing says of a resource.
-    fn listed(self, out: &mut [u8], s: &[u8]) -> Words {
-        self.short_text(out, s, b"revision")
-            .option_event(out, s)
-            .close(out)
+fn change(words: Words, out: &mut [u8], s: &[u8]) -> Words {
+    let case = words.case(out, s, b"change", 1);
+    let next = case.words;
+    if case.value == 1 {
+        return resource(next, out, s, b"remove ");
     }
+    upsert(next, out, s)
+}
 
-    fn option_event(self, out: &mut [u8], s: &[u8]) -> Words {
-        let some = self.option(out, s, b"event");
-        let words = some.words;
-        if some.value == 0 {
-            return words.item(out, b"no event");
-        }
-        words.event(out, s)
+fn upsert(words: Words, out: &mut [u8], s: &[u8]) -> Words {
+    let named = resource(words, out, s, b"upsert ").say(out, b" [");
+    listed(named, out, s).close(out)
+}
+
+// What a listing says of a resource.
+fn listed(words: Words, out: &mut [u8], s: &[u8]) -> Words {
+    let dated = words.short_text(out, s, b"revision");
+    option_event(dated, out, s)
+}
+
+fn option_event(words: Words, out: &mut [u8], s: &[u8]) -> Words {
+    let some = words.option(out, s, b"event");
+    let next = some.words;
+    if some.value == 0 {
+        return next.item(out, b"no event");
     }
+    next.event(out, s)
+}
 
-    fn changes(self, out: &mut [u8], s: &[u8]) -> Words {
-        let count = self.count(out, s, b"changes", MAX_CHANGES);
-        let mut words = count.words;
-        let n = count.value;
-        if n == 0 {
-            return words.item(out, b"nothing");
-        }
-        let mut i: u8 = 0;
-        while i < n {
-            words = words.change(out, s);
-            i += 1;
-        }
-        words
+fn changes(words: Words, out: &mut [u8], s: &[u8]) -> Words {
+    let count = words.count(out, s, b"changes", MAX_CHANGES, b"nothing");
+    let mut said = count.words;
+    let n = count.value;
+    let mut i: u8 = 0;
+    while i < n {
+        said = change(said, out, s);
+        i += 1;
     }
+    said
+}
 
-    // What follows a page.
-    fn next_page(self, out: &mut [u8], s: &[u8]) -> Words {
-        let case = self.case(out, s, b"end of a page", 1);
-        let words = case.words;
-        words
-            .begin(out, names::nth(b"more from \ndone at ", case.value))
-            .short_text(out, s, b"cursor")
+// What follows a page.
+fn next_page(words: Words, out: &mut [u8], s: &[u8]) -> Words {
+    let case = words.case(out, s, b"end of a page", 1);
+    let next = case.words;
+    next.begin(out, nth(b"more from \ndone at ", case.value))
+        .short_text(out, s, b"cursor")
+}
+
+fn page(words: Words, out: &mut [u8], s: &[u8]) -> Words {
+    let listed = changes(words.begin(out, b"listed "), out, s);
+    next_page(listed, out, s)
+}
+
+fn found(words: Words, out: &mut [u8], s: &[u8]) -> Words {
+    let some = words.option(out, s, b"event");
+    let next = some.words;
+    if some.value == 0 {
+        return next.item(out, b"read nothing");
     }
+    event(next, out, s, b"read ")
+}
 
-    fn page(self, out: &mut [u8], s: &[u8]) -> Words {
-        self.begin(out, b"listed ")
-            .changes(out, s)
-            .next_page(out, s)
+fn failure(words: Words, out: &mut [u8], s: &[u8]) -> Words {
+    let case = words.case(out, s, b"failure", 5);
+    let next = case.words;
+    let k = case.value;
+    let name = nth(
+        b"CursorExpired\nPreconditionFailed\nNotFound\nAlreadyExists\nTransient\nRejected, ",
+        k,
+    );
+    if k == 5 {
+        return next.begin(out, name).text(out, s, b"reason", MAX_REASON);
     }
+    next.item(out, name)
+}
 
-    fn found(self, out: &mut [u8], s: &[u8]) -> Words {
-        let some = self.option(out, s, b"event");
-        let words = some.words;
-        if some.value == 0 {
-            return words.item(out, b"read nothing");
-        }
-        words.begin(out, b"read ").event(out, s)
-    }
-
-    fn failure(self, out: &mut [u8], s: &[u8]) -> Words {
-        let case = self.case(out, s, b"failure", 5);
-        let words = case.words;
-        let k = case.value;
-        if k == 5 {
-            return words
-                .begin(out, b"Rejected, ")
-                .text(out, s, b"reason", MAX_REASON);
-        }
-        let names = b"CursorExpired\nPreconditionFailed\nNotFound\nAlreadyExists\nTransient";
-        words.item(out, names::nth(names, k))
-    }
-
-    fn outcome(self, out: &mut [u8], s: &[u8]) -> Words {
-        let case = self.case(out, s, b"outcome", 4);
-        let words = case.words;
-        let k = case.value;
-        match k {
-            0 => words.page(out, s),
-            1 => words.found(out, s),
-            2 => words.begin(out, b"written ").event(out, s),
-            3 => words.item(out, b"deleted"),
-            _ => words.begin(out, b"failed with ").failure(out, s),
-        }
+fn outcome(words: Words, out: &mut [u8], s: &[u8]) -> Words {
+    let case = words.case(out, s, b"outcome", 4);
+    let next = case.words;
+    let k = case.value;
+    match k {
+        0 => page(next, out, s),
+        1 => found(next, out, s),
+        2 => event(next, out, s, b"written "),
+        3 => next.item(out, b"deleted"),
+        _ => failure(next.begin(out, b"failed with "), out, s),
     }
 }
 
 // Inputs
-impl Words {
-    fn operation(self, out: &mut [u8], s: &[u8]) -> Words {
-        let case = self.case(out, s, b"operation", 2);
-        let words = case.words;
-        let k = case.value;
-        match k {
-            0 => words.begin(out, b"create ").event(out, s),
-            1 => words.begin(out, b"update from [").base_and_ours(out, s),
-            _ => words.item(out, b"delete"),
-        }
-    }
 
-    fn base_and_ours(self, out: &mut [u8], s: &[u8]) -> Words {
-        self.fields(out, s)
-            .say(out, b"] to [")
-            .fields(out, s)
-            .close(out)
+fn operation(words: Words, out: &mut [u8], s: &[u8]) -> Words {
+    let case = words.case(out, s, b"operation", 2);
+    let next = case.words;
+    let k = case.value;
+    match k {
+        0 => event(next, out, s, b"create "),
+        1 => base_and_ours(next.begin(out, b"update from ["), out, s),
+        _ => next.item(out, b"delete"),
     }
+}
 
-    fn role(self, out: &mut [u8], s: &[u8]) -> Words {
-        let case = self.case(out, s, b"role", 1);
-        let words = case.words;
-        if case.value == 0 {
-            return words.item(out, b"by the owner");
-        }
-        words.begin(out, b"by ").short_text(out, s, b"attendee")
+fn base_and_ours(words: Words, out: &mut [u8], s: &[u8]) -> Words {
+    words
+        .fields(out, s)
+        .say(out, b"] to [")
+        .fields(out, s)
+        .close(out)
+}
+
+fn role(words: Words, out: &mut [u8], s: &[u8]) -> Words {
+    let case = words.case(out, s, b"role", 1);
+    let next = case.words;
+    if case.value == 0 {
+        return next.item(out, b"by the owner");
     }
+    next.begin(out, b"by ").short_text(out, s, b"attendee")
+}
 
-    fn expiry(self, out: &mut [u8], s: &[u8]) -> Words {
-        let some = self.option(out, s, b"deadline");
-        let words = some.words;
-        if some.value == 0 {
-            return words.item(out, b"never expires");
-        }
-        words.time(out, s, b"expires at")
+fn expiry(words: Words, out: &mut [u8], s: &[u8]) -> Words {
+    let some = words.option(out, s, b"deadline");
+    let next = some.words;
+    if some.value == 0 {
+        return next.item(out, b"never expires");
     }
+    next.time(out, s, b"expires at")
+}
 
-    fn edit(self, out: &mut [u8], s: &[u8]) -> Words {
-        self.short_text(out, s, b"edit")
-            .text(out, s, b"resource", MAX_ID)
-            .say(out, b": ")
-            .change_asked(out, s)
-    }
+fn edit(words: Words, out: &mut [u8], s: &[u8]) -> Words {
+    let named = words
+        .short_text(out, s, b"edit")
+        .text(out, s, b"resource", MAX_ID);
+    change_asked(named.say(out, b": "), out, s)
+}
 
-    // What an edit does, for whom and until when.
-    fn change_asked(self, out: &mut [u8], s: &[u8]) -> Words {
-        self.operation(out, s).role(out, s).expiry(out, s)
-    }
+// What an edit does, for whom and until when.
+fn change_asked(words: Words, out: &mut [u8], s: &[u8]) -> Words {
+    let done = operation(words, out, s);
+    let granted = role(done, out, s);
+    expiry(granted, out, s)
+}
 
-    fn answered(self, out: &mut [u8], s: &[u8]) -> Words {
-        self.number(out, s, b"request", U64)
-            .say(out, b" answered: ")
-            .outcome(out, s)
-    }
+fn answered(words: Words, out: &mut [u8], s: &[u8]) -> Words {
+    let named = words.number(out, s, b"request", U64);
+    outcome(named.say(out, b" answered: "), out, s)
+}
 
-    fn input(self, out: &mut [u8], s: &[u8]) -> Words {
-        let case = self.case(out, s, b"input", 4);
-        let words = case.words;
-        let k = case.value;
-        match k {
-            0 => words.item(out, b"sync"),
-            1 => words.edit(out, s),
-            2 => words.answered(out, s),
-            3 => words.time(out, s, b"tick, now"),
-            _ => words.item(out, b"resume"),
-        }
+fn any_input(words: Words, out: &mut [u8], s: &[u8]) -> Words {
+    let case = words.case(out, s, b"input", 4);
+    let next = case.words;
+    let k = case.value;
+    match k {
+        0 => next.item(out, b"sync"),
+        1 => edit(next, out, s),
+        2 => answered(next, out, s),
+        3 => next.time(out, s, b"tick, now"),
+        _ => next.item(out, b"resume"),
     }
 }
 
 // What an input frame says. Where the bytes are no input frame, how far they can be read, the first byte that cannot, and why.
 pub fn input(pen: Pen, out: &mut [u8], frame: &[u8]) -> Pen {
-    start(pen).input(out, frame).end(out, frame)
+    any_input(phrases::start(pen), out, frame).end(out, frame)
 }

@@ -2,8 +2,8 @@ use Prim.Native.Nat.{_≤_, _-_}
 use mathlib.Core.Path.{_≡_}
 use lib.ListN.{length}
 use borrow.Author.Needs.{needs}
-use Rattle.words.proofs.writing.escaped.Statement.{statement}
-use Rattle.words.proofs.writing.escaped.Tie as tie
+use Rattle.phrases.proofs.writing.escaped.Statement.{statement}
+use Rattle.phrases.proofs.writing.escaped.Tie as tie
 
 abbrev Inv-loop : tie.InvT-loop
 Inv-loop out₀ bytes shown₀ i₀ out shown i = (i ≤ length bytes) × (length out ≡ length out₀)

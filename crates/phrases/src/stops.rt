@@ -40,7 +40,11 @@ pub fn text(pen: Pen, out: &mut [u8], s: &[u8], at: usize, what: &[u8], limit: u
     if s.len() - at <= n {
         return ends(place, out, b"inside", what);
     }
-    let named = place.part(out, b"the ").part(out, what);
+    no_text(place, out, what)
+}
+
+fn no_text(pen: Pen, out: &mut [u8], what: &[u8]) -> Pen {
+    let named = pen.part(out, b"the ").part(out, what);
     named.part(out, b" is not well-formed UTF-8")
 }
 
@@ -98,19 +102,25 @@ pub fn byte(
     }
     let n = wide(s[at]);
     match says {
-        Says::Case => {
-            let named = place.part(out, b"no ").part(out, what);
-            return count(named.part(out, b" has the case "), out, n);
-        }
-        Says::Option => {
-            let named = count(place, out, n).part(out, b", where 0 for no ");
-            return named.part(out, what).part(out, b" or 1 is expected");
-        }
-        Says::Count => {
-            let named = count(place, out, n).byte(out, b' ').part(out, what);
-            return at_most(named, out, wide(most));
-        }
+        Says::Case => no_case(place, out, what, n),
+        Says::Option => no_option(place, out, what, n),
+        Says::Count => too_many(place, out, what, n, wide(most)),
     }
+}
+
+fn no_case(pen: Pen, out: &mut [u8], what: &[u8], n: usize) -> Pen {
+    let named = pen.part(out, b"no ").part(out, what);
+    count(named.part(out, b" has the case "), out, n)
+}
+
+fn no_option(pen: Pen, out: &mut [u8], what: &[u8], n: usize) -> Pen {
+    let named = count(pen, out, n).part(out, b", where 0 for no ");
+    named.part(out, what).part(out, b" or 1 is expected")
+}
+
+fn too_many(pen: Pen, out: &mut [u8], what: &[u8], n: usize, limit: usize) -> Pen {
+    let named = count(pen, out, n).byte(out, b' ').part(out, what);
+    at_most(named, out, limit)
 }
 
 // Where bytes are left over.

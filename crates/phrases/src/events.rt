@@ -2,12 +2,11 @@
 use crate::places::Words;
 use frame::MAX_ATTENDEES;
 use frame::MAX_ID;
-use frame::MAX_TEXT;
 use frame::U32;
 
 // Enums whose cases hold nothing
 impl Words {
-    pub fn provider(self, out: &mut [u8], s: &[u8]) -> Words {
+    fn provider(self, out: &mut [u8], s: &[u8]) -> Words {
         let names = b"Google\nGraph\nCalDav\nIcs";
         self.one_of(out, s, b"provider", 3, names)
     }
@@ -46,15 +45,6 @@ impl Words {
 
 // An event's fields
 impl Words {
-    // Any text but an id or a reason.
-    pub fn short_text(self, out: &mut [u8], s: &[u8], what: &[u8]) -> Words {
-        self.text(out, s, what, MAX_TEXT)
-    }
-
-    pub fn option_short_text(self, out: &mut [u8], s: &[u8], what: &[u8]) -> Words {
-        self.option_text(out, s, what, MAX_TEXT)
-    }
-
     pub fn option_organizer(self, out: &mut [u8], s: &[u8]) -> Words {
         let some = self.option(out, s, b"organizer");
         let words = some.words;
@@ -87,12 +77,9 @@ impl Words {
     }
 
     fn attendees(self, out: &mut [u8], s: &[u8]) -> Words {
-        let count = self.count(out, s, b"attendees", MAX_ATTENDEES);
+        let count = self.count(out, s, b"attendees", MAX_ATTENDEES, b"no attendees");
         let mut words = count.words;
         let n = count.value;
-        if n == 0 {
-            return words.item(out, b"no attendees");
-        }
         let mut i: u8 = 0;
         while i < n {
             words = words.attendee(out, s);

@@ -1,8 +1,8 @@
 use Prim.Native.Nat.{_≤_, _-_}
 use lib.ListN.{length}
 use borrow.Author.Needs.{needs}
-use Rattle.words.proofs.names.nth.Statement.{statement}
-use Rattle.words.proofs.names.nth.Tie as tie
+use Rattle.phrases.proofs.cases.nth.Statement.{statement}
+use Rattle.phrases.proofs.cases.nth.Tie as tie
 
 abbrev Inv-loop : tie.InvT-loop
 Inv-loop names k from₀ i₀ from i = (i ≤ k) × (from ≤ length names)

@@ -1,12 +1,13 @@
 // A place in the bytes that are read and a place in the text that is written, moved on together. Where the bytes are not what they should
 // be, the text says so, and nothing is read or said from there on.
-use crate::names;
+use crate::cases::nth;
 use crate::stops;
 use crate::stops::Says;
 use crate::writing::decimal;
 use crate::writing::quoted;
 use crate::writing::signed;
 use frame::Cursor;
+use frame::MAX_TEXT;
 use frame::TAG;
 use frame::U64;
 use pens::Pen;
@@ -137,6 +138,11 @@ impl Words {
         ended(next, quoted(named, out, frame::text_at(s, at, limit)))
     }
 
+    // Any text but an id or a reason.
+    pub fn short_text(self, out: &mut [u8], s: &[u8], what: &[u8]) -> Words {
+        self.text(out, s, what, MAX_TEXT)
+    }
+
     // A number of w bytes, behind its name.
     pub fn number(self, out: &mut [u8], s: &[u8], what: &[u8], w: usize) -> Words
         requires { ⌜ (1 ≤ w) × (w ≤ 8) ⌝ }
@@ -213,7 +219,7 @@ impl Words {
     pub fn one_of(self, out: &mut [u8], s: &[u8], what: &[u8], last: u8, names: &[u8]) -> Words {
         let case = self.case(out, s, what, last);
         let words = case.words;
-        words.item(out, names::nth(names, case.value))
+        words.item(out, nth(names, case.value))
     }
 
     // Whether `what` follows: 0 or 1.
@@ -221,9 +227,17 @@ impl Words {
         self.byte(out, s, Says::Option, what, 1)
     }
 
-    // How many of `what` follow.
-    pub fn count(self, out: &mut [u8], s: &[u8], what: &[u8], limit: u8) -> Chosen {
-        self.byte(out, s, Says::Count, what, limit)
+    // How many of `what` follow; if none do, that is an item.
+    pub fn count(self, out: &mut [u8], s: &[u8], what: &[u8], limit: u8, none: &[u8]) -> Chosen {
+        let count = self.byte(out, s, Says::Count, what, limit);
+        let words = count.words;
+        if count.value == 0 {
+            return Chosen {
+                value: 0,
+                words: words.item(out, none),
+            };
+        }
+        count
     }
 }
 
@@ -240,6 +254,10 @@ impl Words {
             return words.missing(out, what);
         }
         words.text(out, s, what, limit)
+    }
+
+    pub fn option_short_text(self, out: &mut [u8], s: &[u8], what: &[u8]) -> Words {
+        self.option_text(out, s, what, MAX_TEXT)
     }
 
     pub fn option_tag(self, out: &mut [u8], s: &[u8], what: &[u8]) -> Words {

@@ -1,0 +1,59 @@
+use Prim.Native.Nat.{_≤_, _-_}
+use mathlib.Core.Path.{_≡_}
+use lib.ListN.{length}
+use borrow.Author.Needs.{needs}
+use Rattle.words.proofs.reports.conflicts.Statement.{statement}
+use Rattle.words.proofs.reports.conflicts.Tie as tie
+
+abbrev Inv-loop : tie.InvT-loop
+Inv-loop out₀ s said₀ n i₀ out said i = (i ≤ n) × (length out ≡ length out₀)
+
+abbrev μ-loop : tie.MeasureT-loop
+μ-loop out₀ s said₀ n i₀ out said i = n - i
+
+slice-aggregate-count : tie.Need-slice-aggregate-count Inv-loop μ-loop
+slice-aggregate-count c = search needs
+
+slice-aggregate-count-2 : tie.Need-slice-aggregate-count-2 Inv-loop μ-loop
+slice-aggregate-count-2 c = search needs
+
+count-requires : tie.Need-count-requires Inv-loop μ-loop
+count-requires c κs = search needs
+
+loop-holds : tie.Need-loop-holds Inv-loop μ-loop
+loop-holds c = search needs
+
+conflict-requires : tie.Need-conflict-requires Inv-loop μ-loop
+conflict-requires c κs = search needs
+
+add-i : tie.Need-add-i Inv-loop μ-loop
+add-i c = search needs
+
+loop-less : tie.Need-loop-less Inv-loop μ-loop
+loop-less c = search needs
+
+loop-again : tie.Need-loop-again Inv-loop μ-loop
+loop-again c = search needs
+
+same-length : tie.Need-same-length Inv-loop μ-loop
+same-length c = search needs
+
+returns : tie.Need-returns Inv-loop μ-loop
+returns c = search needs
+
+pub conflicts-spec : {M : Type 1} → statement M
+conflicts-spec =
+    tie.close
+    (tie.spec
+    Inv-loop
+    μ-loop
+    slice-aggregate-count
+    slice-aggregate-count-2
+    count-requires
+    loop-holds
+    conflict-requires
+    add-i
+    loop-less
+    loop-again
+    same-length
+    returns)
