@@ -20,6 +20,7 @@ pub enum Last {
     Item,
 }
 
+// Its fields are public since the crates above are checked in half the time so.
 pub struct Words {
     pub place: Cursor,
     pub pen: Pen,
