@@ -4,5 +4,3 @@ pub mod Resources
 pub mod Expiring
 -- One queue at a tick, and all of them.
 pub mod Ticking
--- A time's bits.
-pub mod Times

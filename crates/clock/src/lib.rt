@@ -1,11 +1,8 @@
 // Time: edits that are past their expiry.
-ghost use mathlib.Core.Path.{_≡_};
 ghost use mathlib.Core.List.{[], _∷_};
 ghost use mathlib.Core.Option.{some};
 ghost use lib.ListN.{drop};
 ghost use Rattle.format.specs.Format.{stamp};
-ghost use mir.Syntax.{w64};
-ghost use mir.Val.{ofZ};
 ghost use Rattle.model.specs.State.{Pending, Queue};
 ghost use Rattle.model.specs.Calls.{Notice, Effect};
 ghost use Rattle.model.specs.Sync.{tell-expired, tick-resource, tick};
@@ -141,22 +138,11 @@ fn tick_each(work: &mut [u8], out: &mut [u8], p: Progress, at: i64) -> Progress
     q
 }
 
-// A time's two's complement bits.
-fn bits(at: i64) -> u64
-    ensures { λ r. ⌜ r ≡ ofZ w64 at ⌝ }
-{
-    if at >= 0 {
-        return at as u64;
-    }
-    let below = -1 - at;
-    0xffff_ffff_ffff_ffff - (below as u64)
-}
-
 pub fn tick(work: &mut [u8], out: &mut [u8], p: Progress, at: i64) -> Progress
     requires { ⌜ HasState (now work) ⌝ }
     requires { ⌜ stamp .Ok at ⌝ }
     ensures { λ r. ⌜ Does (tick at) (now (work .entry)) (now (out .entry)) p r (now (work .exit)) (now (out .exit)) ⌝ }
 {
-    state::set_now(work, bits(at));
+    state::set_now(work, queues::bits_of(at));
     tick_each(work, out, p, at)
 }
