@@ -15,12 +15,13 @@ use Rattle.model.specs.Limits.{document01}
 use Rattle.model.specs.Maps.{map, keys}
 use Rattle.model.specs.Formats.{resourceId}
 use Rattle.model.specs.Machine.{Machine, Run, for-each}
+use Rattle.model.proofs.Fitting.{length-map}
 use Rattle.state.specs.Fits.{QueueFits}
 use Rattle.state.specs.Layout.{padded, name-slot}
 use Rattle.state.specs.Contract.{Keeps, HasState}
 use Rattle.state.specs.Values.{name-of, Named}
 use Rattle.state.proofs.Padded.{length-name}
-use Rattle.state.proofs.Rows.{length-rows, sized-rows}
+use Rattle.state.proofs.Rows.{sized-rows}
 use Rattle.waiting.specs.Entries.{ListsResources}
 use Rattle.machine.specs.declared.Progress.{Progress}
 use Rattle.machine.specs.Contract.{Does}
@@ -37,7 +38,7 @@ keys-long [] = refl
 keys-long (e ∷ m) = ap suc (keys-long m)
 
 names-long : (l : List Text) → All (resourceId .Ok) l → length (flat (map name-slot l)) ≡ length l * 33
-names-long l a = tables.sized-length 33 (map name-slot l) (sized-rows name-slot 33 (resourceId .Ok) length-name l a) ∙ ap (λ (n : ℕ). n * 33) (length-rows name-slot l)
+names-long l a = tables.sized-length 33 (map name-slot l) (sized-rows name-slot 33 (resourceId .Ok) length-name l a) ∙ ap (λ (n : ℕ). n * 33) (length-map name-slot l)
 
 -- what a reader of one name gives
 abbrev pub Gives : ℕ → List ℕ → List ℕ → Type 0

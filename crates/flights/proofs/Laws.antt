@@ -10,6 +10,7 @@ use lib.Seq.{take-at, drop-at, drop-drop, take-all, getD-take, getD-drop}
 use Rattle.format.specs.Format.{number, bigEndian, via, enum, _∣_, nothing}
 use Rattle.format.specs.Format.{text as text-format}
 use Rattle.format.specs.Utf8.{isText, chars}
+use Rattle.format.proofs.SizeLaws.{length-digits}
 use Rattle.spans.specs.Bytes.{zeros}
 use Rattle.spans.specs.Compare.{order}
 use Rattle.numbers.specs.Big.{fromBe}
@@ -32,7 +33,6 @@ use Rattle.state.specs.Values.{name-of, Named, purpose-of}
 use Rattle.state.specs.declared.Kind.{Kind}
 use Rattle.state.specs.declared.Kind.the-variants as kind
 use Rattle.state.proofs.Orders.{from-digits}
-use Rattle.state.proofs.Widths.{length-digits}
 use Rattle.state.proofs.Padded.{length-name, length-number, text-number-only}
 use Rattle.state.proofs.Columns as columns
 use Rattle.state.proofs.Ops as ops

@@ -18,11 +18,12 @@ use Rattle.model.specs.Maps.{filter-map, map, values}
 use Rattle.model.specs.Sync.{refreshed}
 use Rattle.model.specs.Formats.{resourceId}
 use Rattle.model.specs.SavedForm.{purposeF}
+use Rattle.model.proofs.Fitting.{length-map}
 use Rattle.state.specs.Layout.{padded, field, name-slot}
 use Rattle.state.specs.Contract.{state-length, HasState}
 use Rattle.state.specs.Values.{Named}
 use Rattle.state.proofs.Padded.{length-name}
-use Rattle.state.proofs.Rows.{length-rows, sized-rows, row-at}
+use Rattle.state.proofs.Rows.{sized-rows, row-at}
 use Rattle.state.proofs.Columns as columns
 use Rattle.state.proofs.Ops as ops
 use Rattle.flights.specs.Asked.{Listed, Lists, lost-of, lost, Noted}
@@ -84,7 +85,7 @@ names-sized : (l : List Text) → All (resourceId .Ok) l → Sized 33 (map name-
 names-sized l a = sized-rows name-slot 33 (resourceId .Ok) length-name l a
 
 names-long : (l : List Text) → All (resourceId .Ok) l → length (flat (map name-slot l)) ≡ length l * 33
-names-long l a = tables.sized-length 33 (map name-slot l) (names-sized l a) ∙ ap (λ (n : ℕ). n * 33) (length-rows name-slot l)
+names-long l a = tables.sized-length 33 (map name-slot l) (names-sized l a) ∙ ap (λ (n : ℕ). n * 33) (length-map name-slot l)
 
 all-append : (a b : List Text) → All (resourceId .Ok) a → All (resourceId .Ok) b → All (resourceId .Ok) (a ++ b)
 all-append [] b p q = q
@@ -209,6 +210,6 @@ listed-is b q i e names count L l =
     let c : count ≡ length names = L .many in
     let k : i < length names = omega arith in
     let d : take 33 (drop (i * 33) b) ≡ getD (map name-slot names) i [] =
-    ap (λ (x : List ℕ). take 33 (drop (i * 33) x)) (L .is) ∙ slot-in i (map name-slot names) (names-sized names (L .each)) (subst (λ (x : ℕ). i < x) (sym (length-rows name-slot names)) k) in
+    ap (λ (x : List ℕ). take 33 (drop (i * 33) x)) (L .is) ∙ slot-in i (map name-slot names) (names-sized names (L .each)) (subst (λ (x : ℕ). i < x) (sym (length-map name-slot names)) k) in
     let f : q ≡ name-slot (getD names i []) = e ∙ d ∙ row-at name-slot [] i names k in
     (f, ops.slot-named q (getD names i []) (ok-at names i (L .each) k) f .1)

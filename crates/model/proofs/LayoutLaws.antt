@@ -24,12 +24,11 @@ use Rattle.model.specs.WellFormed.{all, rising, every, entry-rules, queu
 use Rattle.model.specs.Layout.{table, nameKey, numberKey, passBytes, entryTo, entryFrom, entryBytes, entries-of, put-first, queues-of, queuesBytes, partsBytes, stateBytes}
 use Rattle.model.proofs.FormatsLaws.{resourceId-law, shortText-law, u64-law, eventF-law, listFromF-law, operationF-law, roleF-law, conflictsF-law, refusalsF-law}
 use Rattle.model.proofs.SavedFormLaws.{stagedF-law, purposeF-law}
-use Rattle.model.proofs.Tables.{by-name-self, is-lt, and-left, and-right, same-is}
+use Rattle.model.proofs.Tables.{by-name-self, is-lt, and-left, and-right, same-is, name-order, rising-tail}
 use Rattle.model.proofs.Fitting.{all-append}
-use Rattle.model.proofs.Flights.{Full}
 use Rattle.model.proofs.OneInFlight.{every-at, all-full}
 use Rattle.model.proofs.Sizes.{id-within, text-size, event-within, operation-within, role-within, cursor-within, time-within, staged-within, from-within, purpose-within}
-use Rattle.model.proofs.StaysWellFormed.{some-length}
+use Rattle.model.proofs.StaysWellFormed.{queues-few}
 
 true-of : {b : Bool} → T b → b ≡ true
 true-of {b = true} t = refl
@@ -331,17 +330,12 @@ module _ (limits : Limits) where
       let i : queues-of ((p′ ∷ q) ++ l) ≡ (r, p′ ∷ q) ∷ m = queue-back r (p′ ∷ q) m l e tt (and-right (entry-rules r p) (all (entry-rules r) (p′ ∷ q)) t) f in
       ap (put-first p) i ∙ rw (s, by-name-self r)
 
-  rising-rest : (e : ResourceId × Queue) (m : Map ResourceId Queue) → T (rising by-name (keys (e ∷ m))) → T (rising by-name (keys m))
-  unfolding rising keys map
-  rising-rest e [] t = tt
-  rising-rest e (f ∷ m) t = and-right (by (by-name (e .0) (f .0)) true false false) _ t
-
   queues-back : (m : Map ResourceId Queue) → T (all queue-rules m) → T (rising by-name (keys m)) → queues-of (entries-of m) ≡ m
-  unfolding entries-of queues-of all queue-rules
+  unfolding entries-of queues-of all queue-rules keys map
   queues-back [] t u = refl
   queues-back (e ∷ m) t u =
       let h : T (queue-rules e) = and-left (queue-rules e) (all queue-rules m) t in
-      queue-back (e .0) (e .1) m (entries-of m) (queues-back m (and-right (queue-rules e) (all queue-rules m) t) (rising-rest e m u))
+      queue-back (e .0) (e .1) m (entries-of m) (queues-back m (and-right (queue-rules e) (all queue-rules m) t) (rising-tail by-name name-order (e .0) m u))
       (and-left (not (is-empty (e .1))) _ h) (and-right (not (is-empty (e .1))) _ h) (first-new (e .0) (e .1) m u)
 
   queues-there : (m : Map ResourceId Queue) → Rows .Ok m → T (all queue-rules m) → T (rising by-name (keys m)) → waits m ≤ limits .waiting → queuesBytes limits .Ok m
@@ -349,11 +343,6 @@ module _ (limits : Limits) where
   queues-there m ok t u w =
       let few : length (entries-of m) ≤ limits .waiting = subst (λ (n : ℕ). n ≤ limits .waiting) (sym (entries-count m)) w in
       (padded-alike (list-within (limits .waiting) (exactly-within (entryBytes-exactly limits))) .there (entries-of m) (few, entries-there m (ok .1) t), queues-back m t u)
-
-  few-queues : (m : Map ResourceId Queue) → Full m → length m ≤ waits m
-  unfolding values map sum
-  few-queues [] f = omega arith
-  few-queues (e ∷ m) f = let h = few-queues m (f .1) in let k = some-length (e .1) (f .0) in omega arith
 
   key-ok : (r : ResourceId) (q : Queue) → T (not (is-empty q)) → T (all (entry-rules r) q) → All (entryBytes limits .Ok) q → resourceId .Ok r
   unfolding is-empty all entry-rules entryBytes via _⊗_ nameKey padded
@@ -373,7 +362,7 @@ module _ (limits : Limits) where
 
   rows-of : (m : Map ResourceId Queue) → queuesBytes limits .Ok m → T (all queue-rules m) → waits m ≤ limits .waiting → Rows .Ok m
   unfolding queuesBytes table list padded
-  rows-of m ok t w = (let h = few-queues m (all-full m t) in omega arith, rows-back m w t (ok .0 .0 .1))
+  rows-of m ok t w = (let h = queues-few m (all-full m t) in omega arith, rows-back m w t (ok .0 .0 .1))
 
   -- ---- the state: the well-formed ones and no others
 

@@ -218,7 +218,7 @@ module _ (b frame : List ℕ) (at from to : ℕ) (l : at ≤ length b) (kf : fie
           operation = Operation.Update base G;
           is = ap (λ (c : Bool). if c then some (Coalesced.Into (Operation.Update base G)) else none) (sym (tested base ours S) ∙ e);
           ok = o;
-          bytes = filled 1469 a (subst (λ (u : List ℕ). Wrote c c₃ p p₃ u) (sym z) (wrote-then W (wrote-then X Y))) (widths.operation-within .most (Operation.Update base G) o) r;
+          bytes = filled 1469 a (subst (λ (u : List ℕ). Wrote c c₃ p p₃ u) (sym z) (wrote-then W (wrote-then X Y))) (widths.operation-within .bytes (Operation.Update base G) o) r;
         };
       }
 
@@ -276,7 +276,7 @@ module _ (b frame : List ℕ) (at from to m : ℕ) (l : at ≤ length b) (kf : f
           operation = Operation.Create (with-fields K e);
           is = ap (λ (c : Bool). if c then some (Coalesced.Into (Operation.Create (with-fields K e))) else none) (sym (compared e S) ∙ q);
           ok = o;
-          bytes = filled 1469 a (subst (λ (u : List ℕ). Wrote c c₄ p p₄ u) (sym g) (wrote-then W (wrote-then X (wrote-then Y L)))) (widths.operation-within .most (Operation.Create (with-fields K e)) o) r;
+          bytes = filled 1469 a (subst (λ (u : List ℕ). Wrote c c₄ p p₄ u) (sym g) (wrote-then W (wrote-then X (wrote-then Y L)))) (widths.operation-within .bytes (Operation.Create (with-fields K e)) o) r;
         };
       }
     where
@@ -332,7 +332,7 @@ module _ (b : List ℕ) (at : ℕ) where
       operation = Operation.Delete;
       is = rw e;
       ok = delete-ok;
-      bytes = filled 1469 a (subst (λ (u : List ℕ). Wrote c c₁ p p₁ u) (sym delete-bytes) W) (widths.operation-within .most Operation.Delete delete-ok) r;
+      bytes = filled 1469 a (subst (λ (u : List ℕ). Wrote c c₁ p p₁ u) (sym delete-bytes) W) (widths.operation-within .bytes Operation.Delete delete-ok) r;
     };
   }
   delete-on-update r e z a W Operation.Delete S = absurd (let q : _≡_ {A = ℕ} 1 2 = sym z ∙ first-byte Operation.Delete 2 [] delete-bytes S in omega arith)

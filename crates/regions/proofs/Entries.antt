@@ -10,6 +10,7 @@ use lib.Dec.{T, eqb}
 use lib.ListN.{length, take, drop, length-append, length-replicate, length-drop, take-append-drop}
 use lib.Seq.{take-at, drop-at, take-all}
 use Rattle.format.specs.Format.{Format, Lawful, All, text, number, bigEndian}
+use Rattle.format.proofs.SizeLaws.{Within, length-digits}
 use Rattle.spans.specs.Bytes.{zeros, both, allZero}
 use Rattle.spans.specs.Compare.{order}
 use Rattle.tables.specs.Table.{Table, Sized, encTable, slotsOf, text as key-text, keyOk, keysOk, isLess, rising, risingFrom, WellFormed}
@@ -25,11 +26,12 @@ use Rattle.model.specs.Limits.{max-id}
 use Rattle.model.proofs.FormatsLaws.{resourceId-law, u64-law}
 use Rattle.model.proofs.SavedFormLaws.{purposeF-law}
 use Rattle.model.proofs.Tables.{turned, by-name-turned, compare-turned}
+use Rattle.model.proofs.Fitting.{length-map}
 use Rattle.state.specs.Layout.{padded, field, name-slot, number-key, flight-slot, region}
-use Rattle.state.proofs.Widths.{Within, purpose-within, length-digits}
+use Rattle.state.proofs.Widths.{purpose-within}
 use Rattle.state.proofs.Padded.{length-field, length-name, text-name, text-name-only, text-number, number-is}
 use Rattle.state.proofs.Orders.{flipped, name-order, number-order}
-use Rattle.state.proofs.Rows.{length-rows, sized-rows}
+use Rattle.state.proofs.Rows.{sized-rows}
 use Rattle.state.proofs.Regions.{rows-long, flight-long}
 use Rattle.regions.specs.Tests.{filled, isField, isNamed, isFlight, everySlot}
 use Rattle.regions.specs.Inside.{MapIn, NamesIn}
@@ -107,7 +109,7 @@ module _ {E K : Type 0} {slot : E → List ℕ} {P : E → Type 0} {key : E → 
   rows-yes limit r l W e =
       let s : slotsOf stride r ≡ W .t = ap (slotsOf stride) (W .is) ∙ tables.slots-enc stride (length r) (W .t) (W .sized) in
       let d = decode (W .t) (W .sized) (ap (everySlot test) (sym s) ∙ e) in
-      let n : length (W .t) ≡ length (d .rows) = ap length (d .is) ∙ length-rows slot (d .rows) in
+      let n : length (W .t) ≡ length (d .rows) = ap length (d .is) ∙ length-map slot (d .rows) in
       let f = W .few in
       record {
         rows = d .rows;
@@ -128,7 +130,7 @@ module _ {E K : Type 0} {slot : E → List ℕ} {P : E → Type 0} {key : E → 
           t = map slot (H .rows);
           is = H .bytes ∙ ap (λ (n : ℕ). encTable n (map slot (H .rows))) (sym l);
           sized = sized-are;
-          few = subst (λ (n : ℕ). n ≤ limit) (sym (length-rows slot (H .rows))) (H .small);
+          few = subst (λ (n : ℕ). n ≤ limit) (sym (length-map slot (H .rows))) (H .small);
           keys = keys-are (H .rows) (H .each);
           sorted = rising-are (H .rows) (H .each) ∙ T-true (rise ord (map key (H .rows))) (H .rises);
         }
@@ -172,7 +174,7 @@ cut-first m a b l = take-at a b m l
 cut-second : (m n : ℕ) (a b : List ℕ) → length a ≡ m → length b ≡ n → part m n (a ++ b) ≡ b
 cut-second m n a b l k = ap (take n) (drop-at a b m l) ∙ take-all n b (omega arith)
 
-module _ {A : Type 0} {f : Format A} {n : ℕ} (F : Lawful f) (W : Within f n) (v : Value) (is : (s : List ℕ) → isField v s ≡ filled f s) where
+module _ {A : Type 0} {f : Format A} {n : ℕ} (F : Lawful f) (W : Within n f) (v : Value) (is : (s : List ℕ) → isField v s ≡ filled f s) where
   abbrev named-slot : Text × A → List ℕ
   named-slot e = name-slot (e .0) ++ field n f (e .1)
 

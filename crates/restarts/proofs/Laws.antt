@@ -19,12 +19,13 @@ use Rattle.model.specs.Formats.{resourceId}
 use Rattle.model.specs.State.{Map, Pass, Queue, Purpose, SyncState, with-in-flight}
 use Rattle.model.specs.Machine.{Machine, Run, ok, _>>=_, for-each, match_none:_some:_, request, in-pass, with-state, set-edits, set-in-flight, set-queue, queue-of}
 use Rattle.model.specs.Sync.{doubt, change-front, change-head, without-plan, start-edit, restart-edit, read-unread, resume-pass, resume}
+use Rattle.model.proofs.Fitting.{length-map}
 use Rattle.state.specs.Layout.{padded, name-slot, pending-slot, edit-slots, pass-of}
 use Rattle.state.specs.Fits.{QueueFits}
 use Rattle.state.specs.Contract.{Keeps, HasState, Reads, Edits}
 use Rattle.state.specs.Values.{name-of, Named}
 use Rattle.state.proofs.Padded.{length-name, text-name-only}
-use Rattle.state.proofs.Rows.{length-rows, sized-rows, row-at}
+use Rattle.state.proofs.Rows.{sized-rows, row-at}
 use Rattle.state.proofs.Ops.{slot-named}
 use Rattle.flights.specs.Asked.{Listed, Lists, lost}
 use Rattle.observe.specs.Reading.{HasList}
@@ -99,7 +100,7 @@ queued-is b q i e names count L l =
     let k : i < length names = omega arith in
     let d : take 33 (drop (i * 33) b) ≡ getD (map name-slot names) i [] =
     ap (λ (x : List ℕ). take 33 (drop (i * 33) x)) (L .is)
-    ∙ slot-in i (map name-slot names) (sized-rows name-slot 33 (resourceId .Ok) length-name names (L .each)) (subst (λ (x : ℕ). i < x) (sym (length-rows name-slot names)) k) in
+    ∙ slot-in i (map name-slot names) (sized-rows name-slot 33 (resourceId .Ok) length-name names (L .each)) (subst (λ (x : ℕ). i < x) (sym (length-map name-slot names)) k) in
     let f : q ≡ name-slot (getD names i []) = e ∙ d ∙ row-at name-slot [] i names k in
     (f, slot-named q (getD names i []) (ok-at names i (L .each) k) f .1)
 
@@ -120,7 +121,7 @@ module _ (limits : Limits) where
   queues-few [] a = omega arith
   queues-few (e ∷ m) a =
       let n = length-append (map (pending-slot limits (e .0)) (e .1)) (edit-slots limits m) in
-      let k = length-rows (pending-slot limits (e .0)) (e .1) in
+      let k = length-map (pending-slot limits (e .0)) (e .1) in
       let h = a .0 .some in
       let i = queues-few m (a .1) in
       omega arith
@@ -133,7 +134,7 @@ module _ (limits : Limits) where
 queued-of : (w b : List ℕ) (n : ℕ) → ListsResources w n b → (s : SyncState) → Keeps s w → Queued (keys (s .edits)) n b
 unfolding keys document01
 queued-of w b n L s h =
-    let k : length (map (λ (e : ResourceId × Queue). e .0) (s .edits)) ≡ length (s .edits) = length-rows (λ (e : ResourceId × Queue). e .0) (s .edits) in
+    let k : length (map (λ (e : ResourceId × Queue). e .0) (s .edits)) ≡ length (s .edits) = length-map (λ (e : ResourceId × Queue). e .0) (s .edits) in
     let f = queues-few document01 (s .edits) (h .fits .edits .each) in
     let g = h .fits .edits .small in
     record {

@@ -12,6 +12,7 @@ use borrow.Author.Tests.{le-leb, lt-leb, lt-ltb, le-ltb}
 use Rattle.format.specs.Format.{option, via, enum, _∣_, nothing, _⊗_, below, number, bigEndian}
 use Rattle.format.specs.Format.{text as text-format}
 use Rattle.format.proofs.FormatLaws.{text-law, option-law}
+use Rattle.format.proofs.SizeLaws.{length-digits}
 use Rattle.spans.specs.Bytes.{zeros}
 use Rattle.spans.specs.Compare.{order}
 use Rattle.numbers.specs.Big.{fromBe}
@@ -25,7 +26,7 @@ use Rattle.model.specs.Sync.{replaces}
 use Rattle.model.specs.Formats.{same, shortText, eventId, tag, u32, idsF, providerF, fieldsF, eventF}
 use Rattle.state.specs.Layout.{padded, field}
 use Rattle.state.proofs.Orders.{flipped, name-order, to-digits}
-use Rattle.state.proofs.Widths.{length-digits, cursor-within}
+use Rattle.state.proofs.Widths.{cursor-within}
 use Rattle.state.proofs.Padded.{length-field, field-same}
 use Rattle.state.proofs.Ops.{same-self, same-true}
 use Rattle.versions.specs.Versions.{Stands, HasEvent, VersionOf, RevisionAt}
@@ -184,7 +185,7 @@ mapper-ok e ok = ok .1 .1 .0
 pub version-room : (e : ProviderEvent) (b : List ℕ) (p r : ℕ) → eventF .Ok e → RevisionAt e b p → OptionPlace b p r → (p ≤ r) × (r + 12 ≤ length b) × (r ≤ p + 34)
 version-room e b p r ok U f =
     let l : r ≡ p + length (option shortText .enc (e .revision)) = option-place _ p r b _ (e .revision) (U .is) f in
-    let w = cursor-within .most (e .revision) (revision-ok e ok) in
+    let w = cursor-within .bytes (e .revision) (revision-ok e ok) in
     (omega arith, room r 12 b _ (past-option _ p r b _ (e .revision) (U .is) f) (revision-long e (U .rest) (U .some)) (omega arith), omega arith)
 
 pub version-is : (e : ProviderEvent) (b revision : List ℕ) (p r mapper : ℕ) → eventF .Ok e → RevisionAt e b p → OptionPlace b p r → revision ≡ padded 34 (take (r - p) (drop p b)) → mapper ≡ fromBe 0 (take 4 (drop r b)) → VersionOf e revision mapper

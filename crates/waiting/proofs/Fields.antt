@@ -6,6 +6,7 @@ use mathlib.Core.List.{List, [], _∷_, _++_, append-nil}
 use mathlib.Core.Bool.{Bool, true, false}
 use lib.ListN.{length, take, drop, getD, set, length-append, length-replicate, replicate-append-replicate, drop-of-length-le}
 use Rattle.format.specs.Format.{option, list, stamp, bool, via, below}
+use Rattle.format.proofs.SizeLaws.{bool-within}
 use Rattle.spans.specs.Bytes.{zeros}
 use Rattle.tables.specs.Table.{Table, flat, Lens, offset}
 use Rattle.tables.proofs.Laws as tables
@@ -21,7 +22,7 @@ use Rattle.model.specs.Limits.{document01}
 use Rattle.model.specs.Formats.{resourceId, shortText, operationF, roleF, conflictsF, refusalsF}
 use Rattle.state.specs.Layout.{padded, field, name-slot, pending-slot}
 use Rattle.state.specs.Fits.{PendingFits}
-use Rattle.state.proofs.Widths.{bool-within, text-33, time-within, operation-within, role-within, absorbed-within}
+use Rattle.state.proofs.Widths.{text-33, time-within, operation-within, role-within, absorbed-within}
 use Rattle.state.proofs.Padded.{length-padded, length-field, length-name}
 use Rattle.state.proofs.Regions.{pending-long}
 use Rattle.waiting.specs.Queues.{planned, renamed}
@@ -256,10 +257,10 @@ pub edit-long : (r : ResourceId) (id operation role expiry : List ℕ) → IsEdi
 edit-long r id operation role expiry I =
     let e = I .edit in
     let B = I .is in (
-      subst (λ (x : List ℕ). length x ≤ 33) (sym (B .id-is)) (text-33 .most (e .id) (B .id-ok)),
-      subst (λ (x : List ℕ). length x ≤ 1469) (sym (B .operation-is)) (operation-within .most (e .operation) (B .operation-ok)),
-      subst (λ (x : List ℕ). length x ≤ 34) (sym (B .role-is)) (role-within .most (e .role) (B .role-ok)),
-      subst (λ (x : List ℕ). length x ≤ 9) (sym (B .expires-is)) (time-within .most (e .expires-at) (B .expires-ok)),
+      subst (λ (x : List ℕ). length x ≤ 33) (sym (B .id-is)) (text-33 .bytes (e .id) (B .id-ok)),
+      subst (λ (x : List ℕ). length x ≤ 1469) (sym (B .operation-is)) (operation-within .bytes (e .operation) (B .operation-ok)),
+      subst (λ (x : List ℕ). length x ≤ 34) (sym (B .role-is)) (role-within .bytes (e .role) (B .role-ok)),
+      subst (λ (x : List ℕ). length x ≤ 9) (sym (B .expires-is)) (time-within .bytes (e .expires-at) (B .expires-ok)),
     )
 
 -- ---- an edit folded into an entry
@@ -295,7 +296,7 @@ pub ids-room : (r : ResourceId) (p : Pending) (o : Operation) (e : Edit) (operat
     → suc (length (Ids (p .absorbed))) + length id ≤ 265
 unfolding absorb document01 list
 ids-room r p o e operation expiry id ok B l =
-    let f : length (list 8 shortText .enc (p .absorbed ++ (e .id ∷ []))) ≤ 265 = absorbed-within document01 .most (p .absorbed ++ (e .id ∷ [])) (absorbed-fits r p o e operation expiry id ok B l .absorbed) in
+    let f : length (list 8 shortText .enc (p .absorbed ++ (e .id ∷ []))) ≤ 265 = absorbed-within document01 .bytes (p .absorbed ++ (e .id ∷ [])) (absorbed-fits r p o e operation expiry id ok B l .absorbed) in
     let a : length (Ids (p .absorbed ++ (e .id ∷ []))) ≡ length (Ids (p .absorbed)) + length (shortText .enc (e .id)) = ap length (ids-more (p .absorbed) (e .id)) ∙ length-append (Ids (p .absorbed)) (shortText .enc (e .id)) in
     let b : length id ≡ length (shortText .enc (e .id)) = ap length (B .id-is) in
     omega arith

@@ -21,11 +21,11 @@ use Rattle.model.specs.Machine.{match_none:_some:_}
 use Rattle.model.specs.Formats.{resourceId}
 use Rattle.model.specs.WellFormed.{rising}
 use Rattle.model.proofs.Tables as orders
+use Rattle.model.proofs.Fitting.{length-map}
 use Rattle.state.specs.Layout.{padded, name-slot, pending-slot, edit-slots}
 use Rattle.state.specs.Fits.{QueueFits}
 use Rattle.state.specs.Contract.{Keeps, HasState, Reads}
 use Rattle.state.specs.Values.{name-of, Named}
-use Rattle.state.proofs.Rows.{length-rows}
 use Rattle.state.proofs.Padded.{length-name, length-padded, text-name-only}
 use Rattle.waiting.specs.Queues.{queue-in, queue}
 use Rattle.waiting.specs.Entries.{ListsResources}
@@ -66,7 +66,7 @@ few-keys [] a = omega arith
 few-keys (e ∷ m) a =
     let h : length m ≤ length (Flat m) = few-keys m (a .1) in
     let l : length (Rows (e .0) (e .1) ++ Flat m) ≡ length (Rows (e .0) (e .1)) + length (Flat m) = length-append (Rows (e .0) (e .1)) (Flat m) in
-    let n : length (Rows (e .0) (e .1)) ≡ length (e .1) = length-rows (Slot (e .0)) (e .1) in
+    let n : length (Rows (e .0) (e .1)) ≡ length (e .1) = length-map (Slot (e .0)) (e .1) in
     let s : 0 < length (e .1) = a .0 .some in
     omega arith
 
@@ -150,7 +150,7 @@ listed-here : (i : ℕ) (done : Map ResourceId Queue) (x : ResourceId × Queue) 
 unfolding edit-slots
 listed-here i done x e =
     let a : length (Flat done ++ (Rows (x .0) (x .1) ++ [])) ≡ length (Flat done) + length (Rows (x .0) (x .1) ++ []) = length-append (Flat done) (Rows (x .0) (x .1) ++ []) in
-    let b : length (Rows (x .0) (x .1) ++ []) ≡ length (x .1) = ap length (append-nil (Rows (x .0) (x .1))) ∙ length-rows (Slot (x .0)) (x .1) in
+    let b : length (Rows (x .0) (x .1) ++ []) ≡ length (x .1) = ap length (append-nil (Rows (x .0) (x .1))) ∙ length-map (Slot (x .0)) (x .1) in
     sym (ap length (flat-two done (x ∷ [])) ∙ omega arith)
 
 listed-number : (count : ℕ) (done : Map ResourceId Queue) (x : ResourceId × Queue) → count ≡ length done → count + 1 ≡ length (done ++ (x ∷ []))
@@ -180,7 +180,7 @@ turn-of {s} {w} h i count bytes done x rest e l here number names =
     let p : ℕ = 20002 + (1 + i * 5940) in
     let n1 : length (Flat (s .edits)) ≡ length (Flat done) + length (Rows (x .0) (x .1) ++ Flat rest) = ap length F ∙ length-append (Flat done) (Rows (x .0) (x .1) ++ Flat rest) in
     let n2 : length (Rows (x .0) (x .1) ++ Flat rest) ≡ length (Rows (x .0) (x .1)) + length (Flat rest) = length-append (Rows (x .0) (x .1)) (Flat rest) in
-    let n3 : length (Rows (x .0) (x .1)) ≡ length (x .1) = length-rows (Slot (x .0)) (x .1) in
+    let n3 : length (Rows (x .0) (x .1)) ≡ length (x .1) = length-map (Slot (x .0)) (x .1) in
     let n4 : length done ≤ length (Flat done) = few-keys done ad in
     let kl : length (flat (map name-slot (keys done))) ≡ length done * 33 = keys-long done ad in
     let cl : count * 33 ≡ length done * 33 = ap (λ (n : ℕ). n * 33) number in

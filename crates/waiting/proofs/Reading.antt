@@ -16,6 +16,7 @@ use mir.Val.{ofZ, toZ}
 use mir.Facts.{fits-ofZ, toZ-ofZ}
 use Rattle.format.specs.Format.{All, option, list, stamp, bool, via, below as below-format, enum, _∣_, nothing, text, bigEndian, isTime}
 use Rattle.format.proofs.FormatLaws.{time-fits}
+use Rattle.format.proofs.SizeLaws.{length-digits}
 use Rattle.spans.specs.Bytes.{zeros}
 use Rattle.tables.specs.Table.{flat, offset}
 use Rattle.tables.proofs.Laws as tables
@@ -35,7 +36,6 @@ use Rattle.state.specs.Contract.{Keeps, HasState, Reads}
 use Rattle.state.specs.Values.{number-in, bits-in}
 use Rattle.state.specs.declared.Numbered.{Numbered}
 use Rattle.state.proofs.Orders.{from-digits}
-use Rattle.state.proofs.Widths.{length-digits}
 use Rattle.waiting.specs.Queues.{below, queue, nth}
 use Rattle.waiting.specs.Entries.{EntryAt}
 use Rattle.waiting.specs.Texts.{texts-end}

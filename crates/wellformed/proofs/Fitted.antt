@@ -21,9 +21,9 @@ use Rattle.model.proofs.Tables.{and-left, and-right, and-both, same-self, same-
 use Rattle.model.proofs.OneInFlight.{every-at}
 use Rattle.model.proofs.Fits as model
 use Rattle.model.proofs.StaysWellFormed.{start-fit}
+use Rattle.model.proofs.Fitting.{length-map}
 use Rattle.state.specs.Layout.{edit-slots, pass-of, no-pass}
 use Rattle.state.specs.Fits.{PassFits, PendingFits, QueueFits, Fits}
-use Rattle.state.proofs.Rows.{length-rows}
 use Rattle.state.proofs.Regions.{bool-ok}
 use Rattle.wellformed.specs.Across.{Across}
 
@@ -72,7 +72,7 @@ module _ (L : Limits) where
   pub slots-sum : (m : Map ResourceId Queue) → length (edit-slots L m) ≡ sum (map length (values m))
   unfolding edit-slots sum map values
   slots-sum [] = refl
-  slots-sum (e ∷ m) = length-append (map _ (e .1)) (edit-slots L m) ∙ ap₂ _+_ (length-rows _ (e .1)) (slots-sum m)
+  slots-sum (e ∷ m) = length-append (map _ (e .1)) (edit-slots L m) ∙ ap₂ _+_ (length-map _ (e .1)) (slots-sum m)
 
   -- ---- well-formed states fit
 

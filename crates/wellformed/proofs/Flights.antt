@@ -9,6 +9,7 @@ use lib.ListN.{length, take, drop, getD}
 use lib.Seq.{take-at, drop-at, take-all, drop-drop, getD-append-add}
 use lib.Dec.{ltb, eqb, isEq}
 use Rattle.format.specs.Format.{All, via, enum, _∣_, nothing, text as text-format, number, bigEndian}
+use Rattle.format.proofs.SizeLaws.{length-digits}
 use Rattle.spans.specs.Bytes.{zeros, both}
 use Rattle.spans.specs.Compare.{order}
 use Rattle.spans.specs.declared.Order.the-variants.{Less}
@@ -26,7 +27,6 @@ use Rattle.model.specs.WellFormed.{all, count, for-edit, edit-requests, has-que
 use Rattle.model.proofs.Tables.{by-name-turned}
 use Rattle.state.specs.Layout.{padded, field, name-slot, number-key, flight-slot, pending-slot, edit-slots}
 use Rattle.state.specs.Fits.{QueueFits}
-use Rattle.state.proofs.Widths.{length-digits}
 use Rattle.state.proofs.Padded.{length-name, text-name, text-name-only, length-number}
 use Rattle.state.proofs.Orders.{flipped, name-order, from-digits}
 use Rattle.regions.specs.Tests.{everySlot}

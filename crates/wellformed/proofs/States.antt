@@ -15,9 +15,10 @@ use Rattle.model.specs.State.{SyncState}
 use Rattle.model.specs.Limits.{document01}
 use Rattle.model.specs.Maps.{map, keys, values}
 use Rattle.model.specs.WellFormed.{all, edit-requests, has-queue}
+use Rattle.model.proofs.Fitting.{length-map}
 use Rattle.state.specs.Layout.{flight-slot, edit-slots}
 use Rattle.state.specs.Contract.{Keeps, HasState, Reads}
-use Rattle.state.proofs.Rows.{length-rows, sized-rows}
+use Rattle.state.proofs.Rows.{sized-rows}
 use Rattle.state.proofs.Regions.{flight-long, edits-sized}
 use Rattle.state.proofs.Parts as parts
 use Rattle.regions.specs.Inside.{EditsIn, OthersIn}
@@ -83,7 +84,7 @@ module _ {s : SyncState} {w : List ℕ} (K : Keeps s w) where
       let k : 55643 + 1033 ≤ length w = omega arith in (
         k,
         count-holds 43 24 (part 55643 1033 w) (map flight-slot (s .in-flight)) (omega arith) (tables.part-length w 55643 1033 k) (parts.in-flight-part s w K)
-            (subst (λ (n : ℕ). n ≤ 24) (sym (length-rows flight-slot (s .in-flight))) (K .fits .in-flight .small)),
+            (subst (λ (n : ℕ). n ≤ 24) (sym (length-map flight-slot (s .in-flight))) (K .fits .in-flight .small)),
       )
 
   pub entries-hold : (20002 + 35641 ≤ length w) × Holds 5940 (part 20002 35641 w)
