@@ -9,7 +9,7 @@ use lib.ListN.{length, length-append}
 use lib.Dec.{T, leb, eqb, eqb→eq, lit<}
 use borrow.Author.Tests.{leb-true}
 use Rattle.format.specs.Format.{Got, Format, Lawful, All, mapGot, nothing, _⊗_, via, enum, _∣_, noCase, option, bool, below, number, list, such, padded, stamp}
-use Rattle.format.proofs.FormatLaws.{map-inv, pair-law, via-law, option-law, bool-law, below-law, list-law, such-law, padded-law, stamp-law}
+use Rattle.format.proofs.FormatLaws.{map-inv, pair-law, via-law, option-law, bool-law, below-law, list-law, such-law, padded-law, stamp-law, T-true}
 use Rattle.format.proofs.SizeLaws.{Within, Exactly, exactly-within, within-more, padded-exactly, pair-exactly, via-exactly, such-exactly, below-exactly, bool-exactly, number-exactly, list-within, option-within}
 use Rattle.model.specs.Seam.{RequestId, ResourceId}
 use Rattle.model.specs.State.{Map, Pass, Pending, Queue, SyncState}
@@ -28,11 +28,7 @@ use Rattle.model.proofs.Tables.{by-name-self, is-lt, and-left, and-righ
 use Rattle.model.proofs.Fitting.{all-append}
 use Rattle.model.proofs.OneInFlight.{every-at, all-full}
 use Rattle.model.proofs.Sizes.{id-within, text-size, event-within, operation-within, role-within, cursor-within, time-within, staged-within, from-within, purpose-within}
-use Rattle.model.proofs.StaysWellFormed.{queues-few}
-
-true-of : {b : Bool} → T b → b ≡ true
-true-of {b = true} t = refl
-true-of {b = false} t = absurd t
+use Rattle.model.proofs.StaysWellFormed.{queues-few, all-weaken}
 
 -- ---- lawful
 
@@ -196,15 +192,11 @@ via-alike : {A B : Type 0} {f g : Format A} (to : A → B) (from : B → A) → 
 unfolding via
 via-alike to from F = record { there = λ b ok. F .there (from b) ok; back = λ b ok. F .back (from b) ok }
 
-all-alike : {A : Type 0} {P Q : A → Type 0} → ((a : A) → P a → Q a) → (l : List A) → All P l → All Q l
-all-alike k [] h = tt
-all-alike k (a ∷ l) h = (k a (h .0), all-alike k l (h .1))
-
 list-alike : {A : Type 0} {f g : Format A} (limit : ℕ) → Alike f g → Alike (list limit f) (list limit g)
 unfolding list
 list-alike limit F = record {
-  there = λ l ok. (ok .0, all-alike (F .there) l (ok .1));
-  back = λ l ok. (ok .0, all-alike (F .back) l (ok .1));
+  there = λ l ok. (ok .0, all-weaken _ _ (F .there) l (ok .1));
+  back = λ l ok. (ok .0, all-weaken _ _ (F .back) l (ok .1));
 }
 
 option-alike : {A : Type 0} {f g : Format A} → Alike f g → Alike (option f) (option g)
@@ -248,8 +240,8 @@ module _ (limits : Limits) where
   entry-there : (resource : ResourceId) (p : Pending) → pendingF limits .Ok p → T (entry-rules resource p) → entryBytes limits .Ok p
   unfolding pendingF editF entryBytes via _⊗_ entry-rules nameKey padded absorbed-bytes
   entry-there resource p ok t =
-      let c = leb-true _ _ (true-of (every-at _ 1 t)) in
-      let r = leb-true _ _ (true-of (every-at _ 2 t)) in (
+      let c = leb-true _ _ (T-true _ (every-at _ 1 t)) in
+      let r = leb-true _ _ (T-true _ (every-at _ 2 t)) in (
         nameKey-alike .there (p .edit .resource) (ok .0 .1 .0),
         (
           (ok .0 .0, text-size .bytes (p .edit .id) (ok .0 .0)),
@@ -356,7 +348,7 @@ module _ (limits : Limits) where
   rows-back (e ∷ m) w t a =
       let h : T (queue-rules e) = and-left (queue-rules e) (all queue-rules m) t in
       let b : All (entryBytes limits .Ok) (e .1) = all-front (entryBytes limits .Ok) (e .1) (entries-of m) a in (
-        (key-ok (e .0) (e .1) (and-left (not (is-empty (e .1))) _ h) (and-right (not (is-empty (e .1))) _ h) b, (omega arith, all-alike entry-back (e .1) b)),
+        (key-ok (e .0) (e .1) (and-left (not (is-empty (e .1))) _ h) (and-right (not (is-empty (e .1))) _ h) b, (omega arith, all-weaken _ _ entry-back (e .1) b)),
         rows-back m (omega arith) (and-right (queue-rules e) (all queue-rules m) t) (all-rest (entryBytes limits .Ok) (e .1) (entries-of m) a),
       )
 
@@ -370,7 +362,7 @@ module _ (limits : Limits) where
   unfolding stateBytes such partsBytes stateF via _⊗_ rules
   state-there s w =
       let a = w .fits in
-      let q = queues-there (s .edits) (a .1 .1 .1 .0) (every-at (rules limits s) 7 (w .ruled)) (every-at (rules limits s) 2 (w .ruled)) (leb-true _ _ (true-of (every-at (rules limits s) 6 (w .ruled)))) in (
+      let q = queues-there (s .edits) (a .1 .1 .1 .0) (every-at (rules limits s) 7 (w .ruled)) (every-at (rules limits s) 2 (w .ruled)) (leb-true _ _ (T-true _ (every-at (rules limits s) 6 (w .ruled)))) in (
         (
           table-alike (limits .records) (pair-alike nameKey-alike (padded-alike event-within)) (pair-exactly nameKey-exactly (padded-exactly event-bytes eventF)) .there (s .records) (a .0),
           (
@@ -407,7 +399,7 @@ module _ (limits : Limits) where
   state-back s ok =
       let a = ok .0 in
       let t = ok .1 in
-      let q = rows-of (s .edits) (a .1 .1 .1 .0) (every-at (rules limits s) 7 t) (leb-true _ _ (true-of (every-at (rules limits s) 6 t))) in
+      let q = rows-of (s .edits) (a .1 .1 .1 .0) (every-at (rules limits s) 7 t) (leb-true _ _ (T-true _ (every-at (rules limits s) 6 t))) in
       record {
         fits = (
           table-alike (limits .records) (pair-alike nameKey-alike (padded-alike event-within)) (pair-exactly nameKey-exactly (padded-exactly event-bytes eventF)) .back (s .records) (a .0),
