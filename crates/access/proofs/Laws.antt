@@ -35,6 +35,7 @@ use Rattle.model.specs.Demands.{waiting-count}
 use Rattle.model.specs.WellFormed.{rising}
 use Rattle.model.proofs.Tables.{turned, by-name-turned, name-order, get-below, get-first, rising-tail}
 use Rattle.model.proofs.FormatsLaws.{eventF-law}
+use Rattle.model.proofs.Fitting.{length-keys}
 use Rattle.state.specs.Layout.{padded, field, name-slot, number-key, record-slot, pending-slot, edit-slots}
 use Rattle.state.specs.Contract.{state-length, HasState, Reads}
 use Rattle.state.proofs.Widths.{event-within}
@@ -236,11 +237,6 @@ unfolding nth keys map
 key-at i [] d h = absurd (not-suc-le-zero h)
 key-at zero (e ∷ m) d h = refl
 key-at (suc i) (e ∷ m) d h = key-at i m d (le-of-suc-le-suc h)
-
-length-keys : (m : Map RequestId Purpose) → length (keys m) ≡ length m
-unfolding keys map
-length-keys [] = refl
-length-keys (e ∷ m) = ap suc (length-keys m)
 
 pub no-number : (w : List ℕ) (n i : ℕ) → Reads (λ s. length (s .in-flight)) w n → n ≤ i → Reads (λ s. nth i (keys (s .in-flight))) w none
 no-number w n i R h = record {

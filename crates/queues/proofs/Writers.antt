@@ -4,7 +4,7 @@ use native.Mathlib.Omega.{arith}
 use mathlib.Core.Path.{_≡_, refl, sym, ap, ap₂, _∙_, subst}
 use mathlib.Core.List.{List, [], _∷_, _++_}
 use mathlib.Core.Option.{Option, none, some, Option·some-injective, Option·none-ne-some}
-use mathlib.Core.Bool.{Bool, true, false, not, _&&_, false≢true}
+use mathlib.Core.Bool.{Bool, true, false, not, false≢true}
 use lib.Dec.{T, isEq, ltb}
 use lib.IntN.{ℤ, pos, negsuc, _-ℤ_, natAbs}
 use lib.Signed.{leZ, ltZ, nonNeg, mag}
@@ -16,12 +16,11 @@ use mir.Val.{ofZ, toZ, Fits, SFits}
 use mir.Facts.{toZ-ofZ}
 use Rattle.format.specs.Format.{Format, Lawful, Got, option, stamp, isTime, text, enum, _∣_, via, nothing, bigEndian, _⊗_}
 use Rattle.format.proofs.FormatLaws.{time-fits}
-use Rattle.spans.specs.Bytes.{zeros}
 use Rattle.model.specs.Event.{Text, ProviderEvent, NormalizedEvent}
 use Rattle.model.specs.Parts as parts
 use Rattle.model.specs.Edits as edits
-use Rattle.model.specs.Formats.{resourceId, shortText, roleF, operationF, fieldsF, eventF}
-use Rattle.model.specs.Limits.{max-id, max-text}
+use Rattle.model.specs.Formats.{shortText, roleF, operationF, fieldsF, eventF}
+use Rattle.model.specs.Limits.{max-text}
 use Rattle.model.specs.Maps.{is-some-and, by-name, same-text}
 use Rattle.model.specs.Sync.{is-attendee}
 use Rattle.spans.specs.Compare.{order}
@@ -29,6 +28,7 @@ use Rattle.spans.specs.declared.Order.{Order}
 use Rattle.spans.specs.declared.Order.the-variants.{Less, Equal, Greater}
 use Rattle.state.proofs.Orders.{flipped, name-order}
 use Rattle.model.proofs.FormatsLaws.{fieldsF-law, eventF-law}
+use Rattle.model.proofs.ValidParts.{create-ok, update-ok}
 use Rattle.frame.specs.Read.{stepped, skips, valueOf, valueAt}
 use Rattle.frame.proofs.Stood.{fields-stand, event-stands}
 use Rattle.frame.specs.Meaning.{standsAt, textAt, fieldsAt, eventAt, meantRole, meantExpiry, meantOperation, noFields, noEvent}
@@ -42,15 +42,12 @@ use Rattle.pens.specs.declared.Pen.{Pen}
 use Rattle.pens.specs.Writing.{Wrote, Stands}
 use Rattle.pens.proofs.Laws.{wrote-then}
 use Rattle.effects.specs.Sent.{pen}
-use Rattle.state.specs.Layout.{padded}
-use Rattle.state.specs.Values.{number-in, bits-in, name-of, Named}
+use Rattle.state.specs.Values.{number-in, bits-in}
 use Rattle.state.specs.declared.Numbered.{Numbered}
 use Rattle.state.specs.declared.Numbered.the-variants as numbered
 use Rattle.state.specs.Contract.{Reads}
 use Rattle.state.proofs.Widths as widths
-use Rattle.state.proofs.Ops.{slot-named}
-use Rattle.waiting.proofs.Writes.{drop-zeros}
-use Rattle.queues.proofs.Notices.{create-bytes, create-ok}
+use Rattle.queues.proofs.Notices.{create-bytes}
 use Rattle.queues.specs.Parts.{StandsAt, PartOf, Filled}
 
 -- ---- bits of a time
@@ -124,10 +121,6 @@ due-never now q = rw q
 pub due-at : (now at x y : ℤ) {e : Expiry} {b : Bool} → e ≡ At at → b ≡ leZ x y → x ≡ at → y ≡ now → b ≡ is-some-and (λ at. leZ at now) (meantExpiry e)
 unfolding is-some-and
 due-at now at x y q h e f = h ∙ ap₂ leZ e f ∙ rw q
-
-both-inv : (a b : Bool) → (a && b) ≡ true → (a ≡ true) × (b ≡ true)
-both-inv true b e = (refl, e)
-both-inv false b e = absurd (false≢true e)
 
 stamp-ok : (z : ℤ) → option stamp .Ok (some z) → isTime z ≡ true
 unfolding option via enum _∣_ stamp
@@ -241,10 +234,6 @@ pub delete-bytes : operationF .enc edits.Operation.Delete ≡ 2 ∷ []
 unfolding operationF via enum _∣_ nothing
 delete-bytes = refl
 
-update-ok : (x y : NormalizedEvent) → operationF .Ok (edits.Operation.Update x y) → fieldsF .Ok x × fieldsF .Ok y
-unfolding operationF via enum _∣_ _⊗_
-update-ok x y k = k
-
 module _ (s : List ℕ) {b b′ : List ℕ} {p q : Pen} (o : Operation) (l : 1469 ≤ length b) (k : operationF .Ok (meantOperation s o)) (a : p ≡ pen 0) where
   operation-filled : (x : List ℕ) → operationF .enc (meantOperation s o) ≡ x → Wrote b b′ p q x → Filled (operationF .enc (meantOperation s o)) b′ (q .at)
   operation-filled x e W = filled 1469 a (subst (λ (y : List ℕ). Wrote b b′ p q y) (sym e) W) (widths.operation-within .bytes (meantOperation s o) k) l
@@ -263,22 +252,6 @@ module _ (s : List ℕ) {b b′ : List ℕ} {p q : Pen} (o : Operation) (l : 146
 
   pub operation-delete : o ≡ Delete → Wrote b b′ p q (2 ∷ []) → Filled (operationF .enc (meantOperation s o)) b′ (q .at)
   operation-delete e W = operation-filled (2 ∷ []) (ap (λ (y : Operation). operationF .enc (meantOperation s y)) e ∙ delete-bytes) W
-
--- ---- a name by value
-
-pub short-resource : (t : List ℕ) (v : Text) → t ≡ v → resourceId .Ok v → length t ≤ 255
-unfolding text max-id
-short-resource t v e k = subst (λ (x : List ℕ). length x ≤ 255) (sym e) (let h = k .0 in omega arith)
-
-pub named : {z b t : List ℕ} {p q : Pen} (v : Text) → resourceId .Ok v → t ≡ v → p ≡ pen 0 → z ≡ zeros 33 → length z ≡ 33 → Wrote z b p q (length t ∷ t) → (name-of b ≡ v) × Named b
-unfolding text padded
-named {z} {b} {t} {p} {q} v k e a y l W₀ =
-    let W : Wrote z b (pen 0) q (resourceId .enc v) = subst (λ (x : List ℕ). Wrote z b (pen 0) q (length x ∷ x)) e (subst (λ (p : Pen). Wrote z b p q (length t ∷ t)) a W₀) in
-    let m : length (resourceId .enc v) ≤ 33 = widths.name-within .bytes v k in
-    let S : Stands z b (pen 0) q (resourceId .enc v) = W .wrote (W .room refl (omega arith)) (omega arith) in
-    let s = S .place in
-    let n : q .at ≡ length (resourceId .enc v) = omega arith in
-    slot-named b v k (S .bytes ∙ ap (λ (x : List ℕ). resourceId .enc v ++ x) (ap₂ (λ (i : ℕ) (x : List ℕ). drop i x) n y ∙ drop-zeros (length (resourceId .enc v)) 33 m))
 
 pub bits-told : (z : ℤ) {n : ℕ} → SFits w64 z → n ≡ ofZ w64 (toZ w64 (ofZ w64 z)) → n ≡ ofZ w64 z
 bits-told z F e = e ∙ ap (ofZ w64) (toZ-ofZ F)

@@ -25,6 +25,7 @@ use Rattle.state.specs.Fits.{PendingFits}
 use Rattle.state.proofs.Widths.{text-33, time-within, operation-within, role-within, absorbed-within}
 use Rattle.state.proofs.Padded.{length-padded, length-field, length-name}
 use Rattle.state.proofs.Regions.{pending-long}
+use Rattle.state.proofs.Fresh.{no-flag}
 use Rattle.waiting.specs.Queues.{planned, renamed}
 use Rattle.waiting.specs.Slots.{new-fields, more-fields}
 use Rattle.waiting.specs.Entries.{PlanBytes, EditBytes, IsEdit, FoldBytes}
@@ -205,10 +206,6 @@ no-refusal : field 1024 refusalsF [] ≡ zeros 1024
 unfolding refusalsF list
 no-refusal = empty-list 1023
 
-not-collided : field 1 bool false ≡ zeros 1
-unfolding bool via below
-not-collided = empty-list 0
-
 none-absorbed : field 265 (list 8 shortText) [] ≡ zeros 265
 unfolding list
 none-absorbed = empty-list 264
@@ -231,7 +228,7 @@ new-slot r e b id operation role expiry k n B =
     let a5 : padded 9 expiry ≡ field 9 (option stamp) (e .expires-at) = ap (padded 9) (B .expires-is) in
     five (padded 33 b) (padded 33 id) (padded 1469 operation) (padded 34 role) (padded 9 expiry)
     (ap length a1 ∙ length-name r k) (ap length a2 ∙ length-field text-33 (e .id) (B .id-ok)) (ap length a3 ∙ length-field operation-within (e .operation) (B .operation-ok)) (ap length a4 ∙ length-field role-within (e .role) (B .role-ok))
-    ∙ joined a1 a2 a3 a4 a5 (sym no-conflict) (sym no-refusal) (sym not-collided) (sym none-absorbed)
+    ∙ joined a1 a2 a3 a4 a5 (sym no-conflict) (sym no-refusal) (sym no-flag) (sym none-absorbed)
     ∙ sym (slot-is r (new-pending e))
   where
     joined : {a b c d e f g h i a′ b′ c′ d′ e′ f′ g′ h′ i′ : List ℕ} → a ≡ a′ → b ≡ b′ → c ≡ c′ → d ≡ d′ → e ≡ e′ → f ≡ f′ → g ≡ g′ → h ≡ h′ → i ≡ i′

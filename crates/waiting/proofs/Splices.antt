@@ -18,7 +18,7 @@ use Rattle.model.specs.State.{Pending, Queue, SyncState}
 use Rattle.model.specs.Limits.{document01}
 use Rattle.model.specs.Maps.{map}
 use Rattle.model.specs.Formats.{resourceId}
-use Rattle.model.proofs.Fitting.{all-append, length-map}
+use Rattle.model.proofs.Fitting.{all-append, length-map, map-append}
 use Rattle.state.specs.Fits.{PendingFits}
 use Rattle.state.specs.Contract.{Keeps, HasState, Reads}
 use Rattle.state.proofs.Parts as parts
@@ -199,4 +199,4 @@ module _ {s : SyncState} {w : List ℕ} (r : ResourceId) (k : resourceId .Ok r) 
       spliced r (q ++ p ∷ []) (inserted (below r (s .edits) + length q) (Slot r p) (Flat (s .edits))) w′ h k (all-append (PendingFits document01 r) q (p ∷ []) (C .own) (f, tt))
       (ap (λ (t : Table). inserted (below r (s .edits) + length q) (Slot r p) t) (C .is) ∙ ap₂ (λ (i m : ℕ). inserted (i + m) (Slot r p) (C .pre ++ (Rows r q ++ C .post))) (sym (C .first)) n
       ∙ lists.behind (C .pre) (Rows r q) (C .post) (Slot r p)
-      ∙ ap (λ (t : Table). C .pre ++ (t ++ C .post)) (sym (lists.map-append (Slot r) q (p ∷ [])))) S
+      ∙ ap (λ (t : Table). C .pre ++ (t ++ C .post)) (sym (map-append (Slot r) q (p ∷ [])))) S

@@ -183,11 +183,6 @@ no-more : (a b t : List ℕ) → b ≡ a ++ t → length a ≡ length b → b �
 no-more a b [] e h = e ∙ append-nil a
 no-more a b (x ∷ t) e h = absurd (let l : length b ≡ length a + suc (length t) = ap length e ∙ length-append a (x ∷ t) in omega arith)
 
-length-map : {A B : Type 0} (f : A → B) (l : List A) → length (map f l) ≡ length l
-unfolding map
-length-map f [] = refl
-length-map f (x ∷ l) = ap suc (length-map f l)
-
 wide-within : {A : Type 0} (w : ℕ) (f : Format A) → Within w (wide w f)
 unfolding wide
 wide-within w f = record { bytes = λ a ok. let l = length-padded w (f .enc a) (ok .1) in omega arith }
