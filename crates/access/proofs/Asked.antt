@@ -1,6 +1,6 @@
 -- What is asked of a buffer, by whether it holds a well-formed state: the states' bytes as the code has them are the definitions'. Assumes nothing.
 use Prim.Native.Nat.{ℕ}
-use mathlib.Core.Path.{_≡_, refl, sym, ap, _∙_}
+use mathlib.Core.Path.{_≡_, refl, ap}
 use mathlib.Core.List.{List}
 use mathlib.Core.Option.{Option, none, some, Option·some-injective}
 use mathlib.Core.Bool.{Bool, true, false}
@@ -13,22 +13,14 @@ use Rattle.model.specs.Maps.{if_then_else_}
 use Rattle.model.specs.Machine.{match_none:_some:_}
 use Rattle.model.specs.Layout.{stateBytes}
 use Rattle.model.specs.Entry.{read-state}
-use Rattle.model.proofs.EntryLaws.{states-exact}
 use Rattle.model.proofs.StaysWellFormed.{fresh-well-formed}
 use Rattle.state.specs.Layout.{layout}
 use Rattle.state.specs.Contract.{state-length}
 use Rattle.layout.proofs.Bytes.{layout-is}
 use Rattle.wellformed.specs.IsState.{IsState}
 use Rattle.wellformed.proofs.Fitted.{fits-of}
+use Rattle.wellformed.proofs.States.{read-of, is-read}
 use Rattle.access.specs.Answers.{asked, freshened}
-
-read-of : {b : List ℕ} (I : IsState b) → read-state document01 b ≡ some (I .state)
-read-of {b} I = states-exact document01 b (I .state) .1 (I .well, I .bytes ∙ layout-is document01 (I .state) (fits-of document01 (I .state) (I .well)))
-
-state-of : {b : List ℕ} {s : SyncState} → read-state document01 b ≡ some s → IsState b
-state-of {b} {s} e =
-    let p = states-exact document01 b s .0 e in
-    record { state = s; well = p .0; bytes = p .1 ∙ sym (layout-is document01 s (fits-of document01 s (p .0))) }
 
 module _ {A : Type 0} (f : SyncState → A) (missing : A) (b : List ℕ) where
   pub asked-short : (length b ≡ state-length → ⊥) → asked f missing b ≡ (1, missing)
@@ -41,7 +33,7 @@ module _ {A : Type 0} (f : SyncState → A) (missing : A) (b : List ℕ) where
     where
       go : (o : Option SyncState) → read-state document01 b ≡ o → _≡_ {A = ℕ × A} (match o none: (2, missing) some: (λ s. (0, f s))) (2, missing)
       go none e = refl
-      go (some s) e = absurd (g (state-of e))
+      go (some s) e = absurd (g (is-read e))
 
   pub asked-state : length b ≡ state-length → (I : IsState b) → asked f missing b ≡ (0, f (I .state))
   unfolding asked if_then_else_ match_none:_some:_

@@ -11,6 +11,7 @@ use lib.Seq.{take-at, drop-at, take-all, getD-take, getD-drop, length-take-le}
 use lib.Dec.{T, isEq, eqb}
 use borrow.Author.Tests.{eqb-true, eqb-false}
 use Rattle.format.specs.Format.{option, via, enum, _∣_, nothing, text as text-format, number, bigEndian}
+use Rattle.format.proofs.SizeLaws.{length-digits}
 use Rattle.spans.specs.Bytes.{zeros}
 use Rattle.spans.specs.Compare.{order}
 use Rattle.spans.specs.declared.Order.{Order}
@@ -34,9 +35,10 @@ use Rattle.model.specs.Demands.{waiting-count}
 use Rattle.model.specs.WellFormed.{rising}
 use Rattle.model.proofs.Tables.{turned, by-name-turned, name-order, get-below, get-first, rising-tail}
 use Rattle.model.proofs.FormatsLaws.{eventF-law}
+use Rattle.model.proofs.Fitting.{length-keys}
 use Rattle.state.specs.Layout.{padded, field, name-slot, number-key, record-slot, pending-slot, edit-slots}
 use Rattle.state.specs.Contract.{state-length, HasState, Reads}
-use Rattle.state.proofs.Widths.{length-digits, event-within}
+use Rattle.state.proofs.Widths.{event-within}
 use Rattle.state.proofs.Padded.{length-name, length-field, text-name}
 use Rattle.state.proofs.Orders.{from-digits}
 use Rattle.state.proofs.Fresh.{fresh-bytes}
@@ -236,11 +238,6 @@ key-at i [] d h = absurd (not-suc-le-zero h)
 key-at zero (e ∷ m) d h = refl
 key-at (suc i) (e ∷ m) d h = key-at i m d (le-of-suc-le-suc h)
 
-length-keys : (m : Map RequestId Purpose) → length (keys m) ≡ length m
-unfolding keys map
-length-keys [] = refl
-length-keys (e ∷ m) = ap suc (length-keys m)
-
 pub no-number : (w : List ℕ) (n i : ℕ) → Reads (λ s. length (s .in-flight)) w n → n ≤ i → Reads (λ s. nth i (keys (s .in-flight))) w none
 no-number w n i R h = record {
   is = λ s K.
@@ -367,7 +364,7 @@ record-read w n i size extent R h p q = record {
       let whole : part (34 + i * 915) 882 w ≡ field 882 eventF (f .1) = ap (λ (x : ℕ). take 882 (drop x w)) a2 ∙ tables.field-of w 915 (1 + i * 915) 33 882 (omega arith)
       ∙ ap (λ (x : List ℕ). take 882 (drop 33 x)) b ∙ ap (take 882) (event-in f (N .2)) ∙ take-all 882 (field 882 eventF (f .1)) (let m = length-field event-within (f .1) (N .2 .1) in omega arith) in
       let x : extent ≡ length (eventF .enc (f .1)) = q ∙ ap (λ (x : List ℕ). skips eventF x start .at) whole ∙ event-ends f (N .2) in
-      let v : length (eventF .enc (f .1)) ≤ 882 = event-within .most (f .1) (N .2 .1) in
+      let v : length (eventF .enc (f .1)) ≤ 882 = event-within .bytes (f .1) (N .2 .1) in
       let event : part (34 + i * 915) extent w ≡ eventF .enc (f .1) = ap₂ (λ (x m : ℕ). take m (drop x w)) a2 x ∙ tables.field-of w 915 (1 + i * 915) 33 (length (eventF .enc (f .1))) (omega arith)
       ∙ ap (λ (x : List ℕ). take (length (eventF .enc (f .1))) (drop 33 x)) b ∙ ap (take (length (eventF .enc (f .1)))) (event-in f (N .2)) ∙ event-bytes f (N .2) in
       ap₂ (λ (x y : List ℕ). some (x, y)) name event ∙ sym (ap record-bytes (nth-getD d i (s .records) k));

@@ -25,11 +25,11 @@ use Rattle.state.specs.Contract.{Keeps, Reads, Edits}
 use Rattle.waiting.specs.Queues.{queue, put-queue, nth}
 use Rattle.waiting.specs.Reading.{case-of, operation-case-of}
 use Rattle.waiting.proofs.Bridge as bridge
+use Rattle.waiting.proofs.Bridge.{set-queue-is}
 use Rattle.machine.specs.declared.Progress.{Progress}
 use Rattle.machine.specs.Contract.{Does}
 use Rattle.machine.proofs.Runs as runs
 use Rattle.records.specs.Events.{IsEvent}
-use Rattle.writes.proofs.Behind.{set-queue-is}
 use Rattle.answers.specs.Valid.{ValidOutcome}
 
 -- ---- an event of the frame

@@ -2,10 +2,10 @@
 use Prim.Native.Nat.{ℕ, suc, _+_, _-_, _≤_, _<_}
 use native.Mathlib.Omega.{arith}
 use native.Mathlib.Numerals.{add-one}
-use mathlib.Core.Path.{_≡_, refl, sym, ap, _∙_, subst}
+use mathlib.Core.Path.{_≡_, refl, sym, ap, _∙_}
 use mathlib.Core.List.{List, [], _∷_, _++_}
 use mathlib.Core.Option.{none, some}
-use mathlib.Core.Bool.{Bool, true, false, cond, not, _&&_}
+use mathlib.Core.Bool.{Bool, true, false, cond, not, _&&_, and-true}
 use lib.Dec.{leb, ltb, eqb}
 use lib.ListN.{length, getD}
 use borrow.Author.Tests.{eq-eqb, ne-eqb, lt-ltb, le-ltb, le-leb, lt-leb}
@@ -20,8 +20,6 @@ use Rattle.frame.specs.declared.Cursor.{Cursor}
 use Rattle.comparison.specs.Bytes.{sameFolded, verdictOf, isOurs, isConflict, isRefused, span}
 use Rattle.comparison.specs.declared.Verdict.{Verdict}
 use Rattle.comparison.specs.declared.Verdict.the-variants.{Theirs, Ours, Conflict}
-use Rattle.pens.specs.Writing.{Wrote, Listed}
-use Rattle.pens.specs.declared.Pen.{Pen}
 use Rattle.attendees.specs.Entries.{entryCount, entryAt, entryBytes, addressOf, oneIf, tallyOf, occurrenceOf, findFrom, findBytes, shownAddress, headOf, replyOf, kindOf, sameRest, judgeWhole, judgeRemoved, restRefused, judgeStanding, judgeOwn, judgeOf, entryValueItems, sideBytes, entryRefused, entryConflict, entryItems, ownOf, keyItems, ourKeyItems, theirItems, ourItems, entriesItems}
 use Rattle.attendees.specs.declared.judging.Judged.{Judged}
 
@@ -49,11 +47,7 @@ module _ (e : List ℕ) where
 
 -- one byte compared
 pub one-byte : (x y : ℕ) → same-text (x ∷ []) (y ∷ []) ≡ eqb x y
-one-byte x y = same-cons x y [] [] ∙ rw same-nil (go (eqb x y))
-  where
-    go : (c : Bool) → (c && true) ≡ c
-    go true = refl
-    go false = refl
+one-byte x y = same-cons x y [] [] ∙ rw same-nil (and-true (eqb x y))
 
 module _ (b o t : ℕ) where
   pub byte-base : o ≡ b → Theirs ≡ verdictOf (b ∷ []) (o ∷ []) (t ∷ []) true
@@ -201,13 +195,7 @@ pub own-me : (owner : Bool) (me wanted : List ℕ) (r : Bool) → owner ≡ fals
 unfolding ownOf
 own-me owner me wanted r e f = rw e f
 
--- what is written
-
-pub wrote-as : {a b : List ℕ} {p q : Pen} {x y : List ℕ} → Wrote a b p q x → x ≡ y → Wrote a b p q y
-wrote-as {a = a} {b = b} {p = p} {q = q} W e = subst (λ x. Wrote a b p q x) e W
-
-pub listed-as : {a b : List ℕ} {p q : Pen} {n m : ℕ} {xs ys : List (List ℕ)} → Listed a b p n q m xs → xs ≡ ys → Listed a b p n q m ys
-listed-as {a = a} {b = b} {p = p} {q = q} {n = n} {m = m} L e = subst (λ xs. Listed a b p n q m xs) e L
+-- the sides of a conflict
 
 pub side-none : (e : List ℕ) → length e ≡ 0 → (4 ∷ 0 ∷ []) ≡ sideBytes e
 unfolding sideBytes

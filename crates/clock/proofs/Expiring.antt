@@ -27,6 +27,7 @@ use Rattle.machine.proofs.Runs as runs
 use Rattle.observe.proofs.Each as each
 use Rattle.clock.specs.Expiring.{tell-due, kept-behind, unless-due}
 use Rattle.waiting.proofs.Algebra as algebra
+use Rattle.waiting.proofs.Lists.{nth-some}
 
 -- a time as its bits give it
 pub due-at : (r : ResourceId) (j : ℕ) {x y : Timestamp} {w : List ℕ} {b : Bool} → x ≡ y → Reads (λ s. is-some-and (λ p. due x (p .edit)) (nth j (queue r s))) w b → Reads (λ s. is-some-and (λ p. due y (p .edit)) (nth j (queue r s))) w b
@@ -70,7 +71,7 @@ due-is r j at e H B E = sym (B .is (H .state) (H .keeps) ∙ ap (is-some-and (λ
 
 one-told : (at : Timestamp) (e : Pending) (m : Machine) → due at (e .edit) ≡ true → tell-expired e m ≡ tell-due at (e ∷ []) m
 unfolding due-entries filter if_then_else_ for-each
-one-told at e m d = sym (rw d (each.bind-ok (tell-expired e m)))
+one-told at e m d = sym (rw d (runs.bind-ok (tell-expired e m)))
 
 one-left : (at : Timestamp) (e : Pending) (m : Machine) → due at (e .edit) ≡ false → ok m ≡ tell-due at (e ∷ []) m
 unfolding due-entries filter if_then_else_ for-each
@@ -104,12 +105,6 @@ due-more : (at : Timestamp) (a b : Queue) (m : Machine) → (tell-due at a m >>=
 unfolding due-entries
 due-more at a b m = sym (ap (λ (l : Queue). for-each tell-expired l m) (filter-append (λ p. due at (p .edit)) a b) ∙ for-append tell-expired (due-entries at a) (due-entries at b) m)
 
-some-nth : (j : ℕ) (q : Queue) → j < length q → (e : Pending) × (nth j q ≡ some e)
-unfolding nth
-some-nth j [] h = absurd (not-suc-le-zero h)
-some-nth zero (p ∷ q) h = (p, refl)
-some-nth (suc j) (p ∷ q) h = some-nth j q (le-of-suc-le-suc h)
-
 take-more : (i : ℕ) (q : Queue) (e : Pending) → nth i q ≡ some e → take (suc i) q ≡ take i q ++ (e ∷ [])
 unfolding nth
 take-more i [] e g = absurd (Option·none-ne-some e g)
@@ -134,7 +129,7 @@ module _ (r : ResourceId) (at : Timestamp) (n total : ℕ) {w : List ℕ} (H : H
       → ((e : Pending) → Reads (λ s. nth j (queue r s)) w (some e) → Does (tell-due at (e ∷ [])) w o₁ q s w o₂) → Does (tell-due at (take (j + 1 - n) (drop n l))) w o p s w o₂
   due-turn j a b D T =
       let c : total ≡ length l = long in
-      let E = some-nth j l (omega arith) in
+      let E = nth-some j l (omega arith) in
       let k : n + (j - n) ≡ j = omega arith in
       let i : j + 1 - n ≡ suc (j - n) = omega arith in
       let g : nth (j - n) (drop n l) ≡ some (E .0) = nth-drop n (j - n) l ∙ ap (λ (x : ℕ). nth x l) k ∙ E .1 in

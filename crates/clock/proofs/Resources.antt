@@ -1,43 +1,28 @@
 -- A loop over the resources that have a queue. Assumes nothing.
-use Prim.Native.Nat.{ℕ, zero, suc, _+_, _-_, _*_, _≤_, _<_}
+use Prim.Native.Nat.{ℕ, zero, _+_, _-_, _*_, _≤_, _<_}
 use native.Mathlib.Omega.{arith}
-use mathlib.Core.Path.{_≡_, refl, sym, ap, _∙_, subst}
-use mathlib.Core.List.{List, [], _∷_, _++_}
+use mathlib.Core.Path.{_≡_, sym, ap, _∙_, subst}
+use mathlib.Core.List.{List, [], _++_}
 use lib.ListN.{length, take, getD, length-append, length-replicate}
 use Rattle.format.specs.Format.{All}
 use Rattle.spans.specs.Bytes.{zeros}
 use Rattle.tables.specs.Table.{flat}
-use Rattle.tables.proofs.Laws as tables
 use Rattle.model.specs.Event.{Text}
 use Rattle.model.specs.Seam.{ResourceId}
-use Rattle.model.specs.State.{Map, Queue, SyncState}
-use Rattle.model.specs.Limits.{document01}
+use Rattle.model.specs.State.{SyncState}
 use Rattle.model.specs.Maps.{map, keys}
 use Rattle.model.specs.Formats.{resourceId}
 use Rattle.model.specs.Machine.{Machine, Run, for-each}
-use Rattle.state.specs.Fits.{QueueFits}
+use Rattle.model.proofs.Fitting.{length-keys}
 use Rattle.state.specs.Layout.{padded, name-slot}
 use Rattle.state.specs.Contract.{Keeps, HasState}
 use Rattle.state.specs.Values.{name-of, Named}
-use Rattle.state.proofs.Padded.{length-name}
-use Rattle.state.proofs.Rows.{length-rows, sized-rows}
+use Rattle.state.proofs.Names.{names-long}
 use Rattle.waiting.specs.Entries.{ListsResources}
+use Rattle.waiting.proofs.Keys.{keys-ok}
 use Rattle.machine.specs.declared.Progress.{Progress}
 use Rattle.machine.specs.Contract.{Does}
 use Rattle.observe.proofs.Each as each
-
-keys-ok : (m : Map ResourceId Queue) → All (QueueFits document01) m → All (resourceId .Ok) (keys m)
-unfolding keys map
-keys-ok [] a = tt
-keys-ok (e ∷ m) a = (a .0 .key, keys-ok m (a .1))
-
-keys-long : (m : Map ResourceId Queue) → length (keys m) ≡ length m
-unfolding keys map
-keys-long [] = refl
-keys-long (e ∷ m) = ap suc (keys-long m)
-
-names-long : (l : List Text) → All (resourceId .Ok) l → length (flat (map name-slot l)) ≡ length l * 33
-names-long l a = tables.sized-length 33 (map name-slot l) (sized-rows name-slot 33 (resourceId .Ok) length-name l a) ∙ ap (λ (n : ℕ). n * 33) (length-rows name-slot l)
 
 -- what a reader of one name gives
 abbrev pub Gives : ℕ → List ℕ → List ℕ → Type 0
@@ -45,7 +30,7 @@ Gives k names b = (ks : List ResourceId) → All (resourceId .Ok) ks → names �
 
 module _ (w names : List ℕ) (count : ℕ) (L : ListsResources w count names) where
   counted : (s : SyncState) → Keeps s w → count ≡ length (keys (s .edits))
-  counted s h = L .is s h .0 ∙ sym (keys-long (s .edits))
+  counted s h = L .is s h .0 ∙ sym (length-keys (s .edits))
 
   pub few : (k : ℕ) → HasState w → length names ≡ 198 → k < count → k < 6
   unfolding padded

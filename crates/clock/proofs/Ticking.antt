@@ -3,7 +3,7 @@ use Prim.Native.Nat.{ℕ}
 use mathlib.Core.Path.{_≡_, refl, sym, ap, ap₂, _∙_, subst}
 use mathlib.Core.List.{List, [], _∷_, _++_}
 use mathlib.Core.Option.{some}
-use mathlib.Core.Bool.{Bool, true, false, not, _&&_, _||_, false≢true}
+use mathlib.Core.Bool.{Bool, true, false, not, _&&_, false≢true}
 use lib.ListN.{take, drop}
 use Rattle.model.specs.Seam.{ResourceId}
 use Rattle.model.specs.Edits.{Timestamp}
@@ -11,13 +11,14 @@ use Rattle.model.specs.State.{Map, Pending, Queue, Purpose, SyncState}
 use Rattle.model.specs.Maps.{if_then_else_, any, filter, retain, is-some-and, values}
 use Rattle.model.specs.Formats.{same}
 use Rattle.model.specs.SavedForm.{purposeF}
-use Rattle.model.specs.Machine.{Machine, Run, ok, _>>=_, for-each, with-state, set-edits, set-in-flight, set-now, set-queue}
+use Rattle.model.specs.Machine.{Machine, Run, ok, _>>=_, for-each, with-state, set-in-flight, set-now, set-queue}
 use Rattle.model.specs.Sync.{due, edit-reads, edit-writes, in-flight-any, drop-in-flight, start-edit, tell-expired, due-entries, kept-entries, tick-queue, tick-resource, tick}
+use Rattle.model.proofs.Fitting.{any-same, filter-same}
 use Rattle.state.specs.Setters.{with-in-flight, with-now}
 use Rattle.state.specs.Contract.{Keeps, HasState, Reads, Edits}
 use Rattle.state.proofs.Bridge as bridge
-use Rattle.waiting.specs.Queues.{queue, queue-in, put-in, put-queue, nth}
-use Rattle.waiting.proofs.Bridge.{queue-is}
+use Rattle.waiting.specs.Queues.{queue, queue-in, put-queue, nth}
+use Rattle.waiting.proofs.Bridge.{queue-is, set-queue-is}
 use Rattle.queues.proofs.Starts.{reads-any}
 use Rattle.machine.specs.declared.Progress.{Progress}
 use Rattle.machine.specs.Contract.{Does}
@@ -25,21 +26,6 @@ use Rattle.machine.proofs.Runs as runs
 use Rattle.observe.proofs.Each as each
 use Rattle.clock.specs.Expiring.{tell-due, kept-behind, head-falls, tick-each}
 use Rattle.waiting.proofs.Algebra as algebra
-
-set-queue-is : (r : ResourceId) (q : Queue) (m : Machine) → set-queue r q m ≡ with-state (put-queue r q (m .state)) m
-unfolding set-queue set-edits put-in
-set-queue-is r [] m = refl
-set-queue-is r (p ∷ q) m = refl
-
-any-same : {A : Type 0} (p q : A → Bool) → ((x : A) → p x ≡ q x) → (l : List A) → any p l ≡ any q l
-unfolding any
-any-same p q e [] = refl
-any-same p q e (x ∷ l) = ap₂ (λ (a b : Bool). a || b) (e x) (any-same p q e l)
-
-filter-same : {A : Type 0} (p q : A → Bool) → ((x : A) → p x ≡ q x) → (l : List A) → filter p l ≡ filter q l
-unfolding filter
-filter-same p q e [] = refl
-filter-same {A} p q e (x ∷ l) = ap₂ (λ (b : Bool) (y : List A). if b then x ∷ y else y) (e x) (filter-same p q e l)
 
 -- ---- whether the head goes
 

@@ -3,7 +3,7 @@ use Prim.Native.Nat.{ℕ}
 use mathlib.Core.Path.{_≡_, refl, sym, ap, _∙_, subst}
 use mathlib.Core.List.{List}
 use mathlib.Core.Option.{Option, none, some}
-use mathlib.Core.Bool.{Bool, true, false, _&&_, false≢true}
+use mathlib.Core.Bool.{Bool, true, false}
 use lib.IntN.{ℤ, pos, negsuc}
 use mir.Syntax.{w64}
 use mir.Val.{ofZ, toZ}
@@ -81,10 +81,6 @@ module _ {w o : List ℕ} {p : Progress} (id : RequestId) (outcome : seam.Outcom
       (reading (by-purpose id outcome) (subst (λ (x : Bool). Reads (λ s. get by-number id (s .in-flight)) w (purpose-in x k b)) e R) d)
 
 -- ---- a time passes from one function to another as its 64 bits
-
-both-inv : (a b : Bool) → a && b ≡ true → (a ≡ true) × (b ≡ true)
-both-inv true b e = (refl, e)
-both-inv false b e = absurd (false≢true e)
 
 same-time : (z : ℤ) → stamp .Ok z → toZ w64 (ofZ w64 z) ≡ z
 unfolding stamp

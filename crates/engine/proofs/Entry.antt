@@ -20,7 +20,7 @@ use Rattle.model.specs.WellFormed.{WellFormed}
 use Rattle.model.specs.Layout.{stateBytes}
 use Rattle.model.specs.Entry.{Lent, lengths-right, read-state, decode, step-frame, leaves, answered, entry}
 use Rattle.model.specs.Entry as model
-use Rattle.model.proofs.Theorems.{accepted, states-exact}
+use Rattle.model.proofs.Theorems.{accepted}
 use Rattle.frame.specs.declared.Input as parsed
 use Rattle.frame.specs.declared.Parsed.{Parsed}
 use Rattle.frame.specs.declared.Parsed.the-variants.{Frame, NoFrame}
@@ -28,10 +28,9 @@ use Rattle.frame.specs.Meaning.{meantInput, meantParsed}
 use Rattle.effects.specs.Sent.{Sent}
 use Rattle.state.specs.Layout.{layout}
 use Rattle.state.specs.Contract.{Keeps, HasState}
-use Rattle.state.proofs.Parts.{keep}
 use Rattle.layout.proofs.Bytes.{layout-is}
 use Rattle.wellformed.specs.IsState.{IsState}
-use Rattle.wellformed.proofs.Fitted.{fits-of}
+use Rattle.wellformed.proofs.States.{keeps-of, read-of, is-read}
 use Rattle.machine.specs.declared.Progress.{Progress}
 use Rattle.machine.specs.Contract.{Holds, Ran, Does}
 use Rattle.engine.specs.declared.Answer.{Answer}
@@ -40,27 +39,15 @@ use Rattle.engine.proofs.Laws.{copied, refused-is}
 
 -- ---- which bytes are read as a state
 
-pub kept : {b : List ℕ} (I : IsState b) → Keeps (I .state) b
-kept {b} I = keep (I .state) b (I .bytes) (fits-of document01 (I .state) (I .well))
-
 pub has-state : {b : List ℕ} → IsState b → HasState b
-has-state I = record { state = I .state; keeps = kept I }
-
-pub read : {b : List ℕ} (I : IsState b) → read-state document01 b ≡ some (I .state)
-read {b} I = states-exact document01 b (I .state) .1 (I .well, I .bytes ∙ layout-is document01 (I .state) (fits-of document01 (I .state) (I .well)))
-
--- the model's bytes of a well-formed state
-pub is-state : (b : List ℕ) (s : SyncState) → read-state document01 b ≡ some s → IsState b
-is-state b s e =
-    let h = states-exact document01 b s .0 e in
-    record { state = s; well = h .0; bytes = h .1 ∙ sym (layout-is document01 s (fits-of document01 s (h .0))) }
+has-state I = record { state = I .state; keeps = keeps-of I }
 
 pub not-read : (b : List ℕ) → (IsState b → ⊥) → read-state document01 b ≡ none
 not-read b n = go (read-state document01 b) refl
   where
     go : (o : Option SyncState) → read-state document01 b ≡ o → read-state document01 b ≡ none
     go none e = e
-    go (some s) e = absurd (n (is-state b s e))
+    go (some s) e = absurd (n (is-read e))
 
 -- ---- a step
 
@@ -147,13 +134,13 @@ module _ (s w o frame : List ℕ) where
   pub no-frame : (a : Answer) (w′ o′ : List ℕ) → true ≡ lengths-right document01 (lent s w o) → IsState s → none ≡ wholeOf inputF frame
       → (a .code ≡ 3) × (a .length ≡ 0) × (w′ ≡ zeros (length w)) × (o′ ≡ zeros (length o)) → answer a s w′ o′ ≡ entry document01 (lent s w o) frame
   unfolding entry if_then_else_ match_none:_some:_ decode step-frame answered
-  no-frame a w′ o′ l I d e = rw (← l, read I, ← d) (refused-is a 3 s w o w′ o′ (e .0) (e .1) (e .2) (e .3))
+  no-frame a w′ o′ l I d e = rw (← l, read-of I, ← d) (refused-is a 3 s w o w′ o′ (e .0) (e .1) (e .2) (e .3))
 
   -- the frame is an input
   pub entered : (a : Answer) (i : Input) (s′ w′ o′ : List ℕ) → true ≡ lengths-right document01 (lent s w o) → IsState s → some i ≡ wholeOf inputF frame
       → Steps i s w o a s′ w′ o′ → answer a s′ w′ o′ ≡ entry document01 (lent s w o) frame
   unfolding entry if_then_else_ match_none:_some:_ decode step-frame
-  entered a i s′ w′ o′ l I d S = S .is (I .state) (kept I) ∙ rw (← l, read I, ← d)
+  entered a i s′ w′ o′ l I d S = S .is (I .state) (keeps-of I) ∙ rw (← l, read-of I, ← d)
 
   -- what the frame was read as
   pub no-input : (r : Parsed) → r ≡ NoFrame → meantParsed frame r ≡ wholeOf inputF frame → none ≡ wholeOf inputF frame

@@ -4,12 +4,13 @@ use native.Mathlib.Omega.{arith}
 use mathlib.Core.Path.{_≡_, refl, sym, ap, ap₂, _∙_}
 use mathlib.Core.List.{List, [], _∷_}
 use mathlib.Core.Option.{none, some}
-use mathlib.Core.Bool.{Bool, true, false, not, _||_}
+use mathlib.Core.Bool.{Bool, true, false, not, _||_, or-false}
 use lib.ListN.{length, take, drop, getD}
-use lib.Seq.{take-at, drop-at, drop-drop, take-all, getD-take, getD-drop}
+use lib.Seq.{take-at, drop-drop, take-all, getD-take, getD-drop}
 use Rattle.format.specs.Format.{number, bigEndian, via, enum, _∣_, nothing}
 use Rattle.format.specs.Format.{text as text-format}
 use Rattle.format.specs.Utf8.{isText, chars}
+use Rattle.format.proofs.SizeLaws.{length-digits}
 use Rattle.spans.specs.Bytes.{zeros}
 use Rattle.spans.specs.Compare.{order}
 use Rattle.numbers.specs.Big.{fromBe}
@@ -25,6 +26,7 @@ use Rattle.model.specs.Maps.{by-number, same-text, any, filter, get, values}
 use Rattle.model.specs.Sync.{is-pass-read, is-of-pass, pass-reads, edit-reads, edit-writes, refreshes, asks-about}
 use Rattle.model.specs.Formats.{resourceId, u64, same}
 use Rattle.model.specs.SavedForm.{purposeF}
+use Rattle.model.proofs.Fitting.{any-same}
 use Rattle.state.specs.Layout.{padded, field, name-slot, number-key, flight-slot}
 use Rattle.state.specs.Setters.{with-in-flight}
 use Rattle.state.specs.Contract.{state-length, Keeps, HasState, Reads, Edits}
@@ -32,8 +34,7 @@ use Rattle.state.specs.Values.{name-of, Named, purpose-of}
 use Rattle.state.specs.declared.Kind.{Kind}
 use Rattle.state.specs.declared.Kind.the-variants as kind
 use Rattle.state.proofs.Orders.{from-digits}
-use Rattle.state.proofs.Widths.{length-digits}
-use Rattle.state.proofs.Padded.{length-name, length-number, text-number-only}
+use Rattle.state.proofs.Padded.{length-name, text-number-only}
 use Rattle.state.proofs.Columns as columns
 use Rattle.state.proofs.Ops as ops
 use Rattle.state.proofs.Bridge as bridge
@@ -76,22 +77,19 @@ whole (Purpose.EditRead r) = refl
 whole (Purpose.EditWrite r) = refl
 whole (Purpose.Refresh r) = refl
 
-value-of : (e : RequestId × Purpose) → drop 9 (flight-slot e) ≡ field 34 purposeF (e .1)
-value-of e = drop-at (number-key (e .0)) (field 34 purposeF (e .1)) 9 (length-number (e .0))
-
 drop-more : (n m : ℕ) (x : List ℕ) → drop (n + m) x ≡ drop m (drop n x)
 drop-more n m x = sym (drop-drop m n x)
 
 -- the first byte and the name of the slot at p
 pub first-is : (w : List ℕ) (p : ℕ) (e : RequestId × Purpose) → take 43 (drop p w) ≡ flight-slot e → getD w (p + 9) 0 ≡ getD (field 34 purposeF (e .1)) 0 0
 first-is w p e h =
-    sym (getD-drop p w 9 0) ∙ sym (getD-take 43 (drop p w) 9 0 (omega arith)) ∙ ap (λ (x : List ℕ). getD x 9 0) h ∙ sym (getD-drop 9 (flight-slot e) 0 0) ∙ ap (λ (x : List ℕ). getD x 0 0) (value-of e)
+    sym (getD-drop p w 9 0) ∙ sym (getD-take 43 (drop p w) 9 0 (omega arith)) ∙ ap (λ (x : List ℕ). getD x 9 0) h ∙ sym (getD-drop 9 (flight-slot e) 0 0) ∙ ap (λ (x : List ℕ). getD x 0 0) (ops.flight-value e)
 
 pub name-is : (w q : List ℕ) (p : ℕ) (e : RequestId × Purpose) → Fit e → take 43 (drop p w) ≡ flight-slot e → q ≡ take 33 (drop (p + 9 + 1) w) → q ≡ name-slot (name-in (e .1))
 name-is w q p e ok h d =
     let n : p + 9 + 1 ≡ p + 10 = omega arith in
     d ∙ ap (λ (j : ℕ). take 33 (drop j w)) n ∙ tables.field-of w 43 p 10 33 (omega arith) ∙ ap (λ (x : List ℕ). take 33 (drop 10 x)) h
-    ∙ ap (take 33) (drop-more 9 1 (flight-slot e) ∙ ap (drop 1) (value-of e) ∙ name-bytes (e .1))
+    ∙ ap (take 33) (drop-more 9 1 (flight-slot e) ∙ ap (drop 1) (ops.flight-value e) ∙ name-bytes (e .1))
     ∙ take-all 33 (name-slot (name-in (e .1))) (omega (arith, length-name (name-in (e .1)) (name-ok (e .1) (ok .1))))
 
 -- what stands there, read
@@ -141,7 +139,7 @@ few w i K l =
     let k = K .keeps .fits .in-flight .small in
     (omega arith, K .keeps .long)
 
-abbrev entry : ℕ → SyncState → RequestId × Purpose
+abbrev pub entry : ℕ → SyncState → RequestId × Purpose
 entry i s = getD (s .in-flight) i (0, Purpose.List)
 
 pub nth : (w : List ℕ) (i : ℕ) (s : SyncState) → Keeps s w → i < getD w 55643 0 → (take 43 (drop (55643 + 1 + i * 43) w) ≡ flight-slot (entry i s)) × Fit (entry i s) × (i < length (s .in-flight))
@@ -173,7 +171,7 @@ at-entry w q i r k K l d a b = (
 -- ---- dropping by kind
 
 first-byte : (e : RequestId × Purpose) → take 1 (drop 9 (flight-slot e)) ≡ take 1 (field 34 purposeF (e .1))
-first-byte e = ap (take 1) (value-of e)
+first-byte e = ap (take 1) (ops.flight-value e)
 
 pass-read-byte : (p : Purpose) → keeps false (order (take 1 (field 34 purposeF p)) (1 ∷ [])) ≡ not (is-pass-read p)
 unfolding order is-pass-read purposeF via enum _∣_ nothing padded
@@ -210,10 +208,6 @@ of-pass-dropped w w′ g =
 abbrev four : Text → Purpose → Bool
 four r p = same purposeF (Purpose.PassRead r) p || (same purposeF (Purpose.EditRead r) p || (same purposeF (Purpose.EditWrite r) p || same purposeF (Purpose.Refresh r) p))
 
-or-false : (b : Bool) → (b || false) ≡ b
-or-false true = refl
-or-false false = refl
-
 about-is : (r : Text) (p : Purpose) → asks-about r p ≡ four r p
 unfolding asks-about pass-reads edit-reads edit-writes refreshes
 about-is r p = go p ∙ sym (ap₂ _||_ (bridge.pass-reads-is r p) (ap₂ _||_ (bridge.edit-reads-is r p) (ap₂ _||_ (bridge.edit-writes-is r p) (bridge.refreshes-is r p))))
@@ -236,11 +230,6 @@ any-or p q (x ∷ l) = ap (λ (b : Bool). (p x || q x) || b) (any-or p q l) ∙ 
     swap false true true d = refl
     swap false true false d = refl
     swap false false c d = refl
-
-any-same : (p q : Purpose → Bool) → ((x : Purpose) → p x ≡ q x) → (l : List Purpose) → any p l ≡ any q l
-unfolding any
-any-same p q h [] = refl
-any-same p q h (x ∷ l) = ap₂ _||_ (h x) (any-same p q h l)
 
 abbrev Asks : (Text → Purpose) → Text → SyncState → Bool
 Asks f r s = any (same purposeF (f r)) (values (s .in-flight))

@@ -1,15 +1,14 @@
 -- The list of the names of the Refreshes: one entry more, and the whole. Assumes nothing.
-use Prim.Native.Nat.{ℕ, zero, suc, _+_, _-_, _*_, _≤_, _<_}
-use native.Mathlib.Nat.{not-suc-le-zero, le-of-suc-le-suc}
+use Prim.Native.Nat.{ℕ, suc, _+_, _-_, _*_, _≤_, _<_}
 use native.Mathlib.Omega.{arith}
 use mathlib.Core.Path.{_≡_, refl, sym, ap, ap₂, _∙_, subst}
 use mathlib.Core.List.{List, [], _∷_, _++_, append-assoc, append-nil}
 use mathlib.Core.Option.{Option, none, some}
 use lib.ListN.{length, take, drop, getD, length-append, length-replicate, replicate-append-replicate}
-use lib.Seq.{take-at, drop-at, drop-append-add}
-use Rattle.format.specs.Format.{All, via, enum, _∣_, nothing}
+use lib.Seq.{take-at, drop-at, drop-append-add, take-suc, take-all}
+use Rattle.format.specs.Format.{via, enum, _∣_, nothing}
 use Rattle.spans.specs.Bytes.{zeros}
-use Rattle.tables.specs.Table.{Table, flat, Sized, encTable}
+use Rattle.tables.specs.Table.{flat}
 use Rattle.tables.proofs.Laws as tables
 use Rattle.model.specs.Event.{Text}
 use Rattle.model.specs.Seam.{RequestId}
@@ -18,28 +17,23 @@ use Rattle.model.specs.Maps.{filter-map, map, values}
 use Rattle.model.specs.Sync.{refreshed}
 use Rattle.model.specs.Formats.{resourceId}
 use Rattle.model.specs.SavedForm.{purposeF}
+use Rattle.model.proofs.Fitting.{all-append, map-append}
 use Rattle.state.specs.Layout.{padded, field, name-slot}
 use Rattle.state.specs.Contract.{state-length, HasState}
 use Rattle.state.specs.Values.{Named}
 use Rattle.state.proofs.Padded.{length-name}
-use Rattle.state.proofs.Rows.{length-rows, sized-rows, row-at}
 use Rattle.state.proofs.Columns as columns
 use Rattle.state.proofs.Ops as ops
+use Rattle.state.proofs.Names.{names-long, name-listed}
 use Rattle.flights.specs.Asked.{Listed, Lists, lost-of, lost, Noted}
 use Rattle.flights.proofs.Laws as laws
-use Rattle.flights.proofs.Laws.{name-in}
+use Rattle.flights.proofs.Laws.{name-in, entry}
 
 -- ---- lists
 
-take-more : (d : RequestId × Purpose) (i : ℕ) (m : Map RequestId Purpose) → i < length m → take (suc i) m ≡ take i m ++ (getD m i d ∷ [])
-take-more d i [] l = absurd (not-suc-le-zero l)
-take-more d zero (e ∷ m) l = refl
-take-more d (suc i) (e ∷ m) l = ap (λ (x : Map RequestId Purpose). e ∷ x) (take-more d i m (le-of-suc-le-suc l))
-
 values-append : (a b : Map RequestId Purpose) → values (a ++ b) ≡ values a ++ values b
-unfolding values map
-values-append [] b = refl
-values-append (e ∷ a) b = ap (λ (x : List Purpose). e .1 ∷ x) (values-append a b)
+unfolding values
+values-append a b = map-append (λ e. e .1) a b
 
 refreshed-append : (a b : List Purpose) → filter-map refreshed (a ++ b) ≡ filter-map refreshed a ++ filter-map refreshed b
 unfolding filter-map
@@ -55,16 +49,13 @@ one : (p : Purpose) (o : Option Text) → refreshed p ≡ o → filter-map refre
 unfolding filter-map
 one p o e = ap (λ (x : Option Text). elim x [ none ↦ [] | some y ↦ y ∷ [] ]) e
 
-abbrev entry : ℕ → SyncState → RequestId × Purpose
-entry i s = getD (s .in-flight) i (0, Purpose.List)
-
 -- the names among one entry more
 more : (i : ℕ) (s : SyncState) → i < length (s .in-flight) → lost-of (i + 1) s ≡ lost-of i s ++ filter-map refreshed (entry i s .1 ∷ [])
 unfolding values map
 more i s l =
     let n : i + 1 ≡ suc i = omega arith in
     ap (λ (k : ℕ). filter-map refreshed (values (take k (s .in-flight)))) n
-    ∙ ap (λ (x : Map RequestId Purpose). filter-map refreshed (values x)) (take-more (0, Purpose.List) i (s .in-flight) l)
+    ∙ ap (λ (x : Map RequestId Purpose). filter-map refreshed (values x)) (take-suc (s .in-flight) i (0, Purpose.List) l)
     ∙ ap (filter-map refreshed) (values-append (take i (s .in-flight)) (entry i s ∷ []))
     ∙ refreshed-append (values (take i (s .in-flight))) (entry i s .1 ∷ [])
 
@@ -79,21 +70,6 @@ refresh-byte (Purpose.EditWrite r) n e = (λ z. absurd (omega arith), λ z. refl
 refresh-byte (Purpose.Refresh r) n e = (λ z. refl, λ z. absurd (z e))
 
 -- ---- the bytes of a list
-
-names-sized : (l : List Text) → All (resourceId .Ok) l → Sized 33 (map name-slot l)
-names-sized l a = sized-rows name-slot 33 (resourceId .Ok) length-name l a
-
-names-long : (l : List Text) → All (resourceId .Ok) l → length (flat (map name-slot l)) ≡ length l * 33
-names-long l a = tables.sized-length 33 (map name-slot l) (names-sized l a) ∙ ap (λ (n : ℕ). n * 33) (length-rows name-slot l)
-
-all-append : (a b : List Text) → All (resourceId .Ok) a → All (resourceId .Ok) b → All (resourceId .Ok) (a ++ b)
-all-append [] b p q = q
-all-append (x ∷ a) b p q = (p .0, all-append a b (p .1) q)
-
-map-append : (a b : List Text) → map name-slot (a ++ b) ≡ map name-slot a ++ map name-slot b
-unfolding map
-map-append [] b = refl
-map-append (x ∷ a) b = ap (λ (t : Table). name-slot x ∷ t) (map-append a b)
 
 -- a name behind those that are there
 put-name : (f q b b′ : List ℕ) (n : ℕ) → length f ≡ n → length q ≡ 33 → n + 33 ≤ 792 → b ≡ padded 792 f → b′ ≡ take n b ++ (q ++ drop (n + length q) b) → b′ ≡ padded 792 (f ++ q)
@@ -131,11 +107,11 @@ listed-more names r n q b b′ ok l L e d =
     let k : length q ≡ 33 = ap length e ∙ length-name r ok in
     let f : length (flat (map name-slot names)) ≡ n * 33 = names-long names (L .each) ∙ ap (λ (x : ℕ). x * 33) (sym c) in
     let g : flat (map name-slot names) ++ q ≡ flat (map name-slot (names ++ (r ∷ []))) =
-    ap (λ (x : List ℕ). flat (map name-slot names) ++ x) (e ∙ sym (append-nil (name-slot r))) ∙ sym (tables.flat-append (map name-slot names) (name-slot r ∷ [])) ∙ ap flat (sym (map-append names (r ∷ []))) in
+    ap (λ (x : List ℕ). flat (map name-slot names) ++ x) (e ∙ sym (append-nil (name-slot r))) ∙ sym (tables.flat-append (map name-slot names) (name-slot r ∷ [])) ∙ ap flat (sym (map-append name-slot names (r ∷ []))) in
     record {
       many = omega arith;
       few = omega arith;
-      each = all-append names (r ∷ []) (L .each) (ok, tt);
+      each = all-append (resourceId .Ok) names (r ∷ []) (L .each) (ok, tt);
       is = put-name (flat (map name-slot names)) q b b′ (n * 33) f k (omega arith) (L .is) d ∙ ap (padded 792) g;
     }
 
@@ -174,9 +150,6 @@ noted-start w b e = record {
   is = λ s h. record { many = refl; few = omega arith; each = tt; is = e };
 }
 
-take-whole : (m : Map RequestId Purpose) → take (length m) m ≡ m
-take-whole m = ap (take (length m)) (sym (append-nil m)) ∙ take-at m [] (length m) refl
-
 pub noted-all : (w b : List ℕ) (i n : ℕ) → i ≤ getD w 55643 0 → getD w 55643 0 ≤ i → Noted i n w b → Noted (getD w 55643 0) n w b
 noted-all w b i n p q N =
     let e : i ≡ getD w 55643 0 = omega arith in
@@ -186,29 +159,11 @@ pub noted-end : (w b : List ℕ) (n : ℕ) → Noted (getD w 55643 0) n w b → 
 noted-end w b n N = record {
   is = λ s h.
       let c = columns.counted ops.flight-column s w h in
-      let t : take (getD w 55643 0) (s .in-flight) ≡ s .in-flight = ap (λ (k : ℕ). take k (s .in-flight)) c ∙ take-whole (s .in-flight) in
+      let t : take (getD w 55643 0) (s .in-flight) ≡ s .in-flight = ap (λ (k : ℕ). take k (s .in-flight)) c ∙ take-all (length (s .in-flight)) (s .in-flight) (omega arith) in
       subst (λ (x : Map RequestId Purpose). Listed (filter-map refreshed (values x)) n b) t (N .is s h);
 }
 
 -- ---- name i
 
-slot-in : (i : ℕ) (t : Table) → Sized 33 t → i < length t → take 33 (drop (i * 33) (padded 792 (flat t))) ≡ getD t i []
-unfolding padded encTable
-slot-in i t s l =
-    let n : 1 + i * 33 ≡ suc (i * 33) = omega arith in
-    let z : 792 - length (flat t) ≡ 793 - 1 - length (flat t) = omega arith in
-    ap (λ (k : ℕ). take 33 (drop (i * 33) (flat t ++ zeros k))) z ∙ sym (ap (λ (j : ℕ). take 33 (drop j (encTable 793 t))) n) ∙ tables.slot-at 33 793 i t s l
-
-ok-at : (m : List Text) (i : ℕ) → All (resourceId .Ok) m → i < length m → resourceId .Ok (getD m i [])
-ok-at [] i a l = absurd (not-suc-le-zero l)
-ok-at (x ∷ m) zero a l = a .0
-ok-at (x ∷ m) (suc i) a l = ok-at m i (a .1) (le-of-suc-le-suc l)
-
 pub listed-is : (b q : List ℕ) (i : ℕ) → q ≡ take 33 (drop (i * 33) b) → (names : List Text) (count : ℕ) → Listed names count b → i < count → (q ≡ name-slot (getD names i [])) × Named q
-listed-is b q i e names count L l =
-    let c : count ≡ length names = L .many in
-    let k : i < length names = omega arith in
-    let d : take 33 (drop (i * 33) b) ≡ getD (map name-slot names) i [] =
-    ap (λ (x : List ℕ). take 33 (drop (i * 33) x)) (L .is) ∙ slot-in i (map name-slot names) (names-sized names (L .each)) (subst (λ (x : ℕ). i < x) (sym (length-rows name-slot names)) k) in
-    let f : q ≡ name-slot (getD names i []) = e ∙ d ∙ row-at name-slot [] i names k in
-    (f, ops.slot-named q (getD names i []) (ok-at names i (L .each) k) f .1)
+listed-is b q i e names count L l = let c : count ≡ length names = L .many in name-listed 792 b q i e names (L .each) (L .is) (omega arith)

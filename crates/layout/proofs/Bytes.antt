@@ -8,6 +8,7 @@ use mathlib.Core.Bool.{Bool, true, false}
 use lib.ListN.{length, length-append, replicate-append-replicate}
 use Rattle.format.specs.Format.{Format, All, concatMap, _⊗_, via, enum, nothing, _∣_, option, bool, below, number, list, such, stamp}
 use Rattle.format.specs.Format as format
+use Rattle.format.proofs.SizeLaws.{bool-within}
 use Rattle.spans.specs.Bytes.{zeros}
 use Rattle.tables.specs.Table.{Table, flat, encTable, Lens}
 use Rattle.tables.proofs.Laws as tables
@@ -19,11 +20,11 @@ use Rattle.model.specs.Formats.{resourceId, shortText, u64, eventF, listFromF, 
 use Rattle.model.specs.SavedForm.{stagedF, purposeF}
 use Rattle.model.specs.Sizes.{id-bytes, text-bytes, organizer-bytes, attendee-bytes, fields-bytes, event-bytes, operation-bytes, option-bytes, time-bytes, edit-bytes, purpose-bytes, absorbed-bytes, entry-bytes, staged-bytes, pass-bytes}
 use Rattle.model.specs.Layout.{table, nameKey, numberKey, passBytes, entryBytes, entries-of, queuesBytes, partsBytes, stateBytes}
+use Rattle.model.proofs.Fitting.{length-map}
 use Rattle.state.specs.Layout.{padded, field, name-slot, number-key, record-slot, staged-slot, flight-slot, learned-slot, alias-slot, pending-slot, pending-width, queue-slots, edit-slots, region, table-size, regions, layout, pass-of, no-pass}
 use Rattle.state.specs.Fits.{PassFits, PendingFits, QueueFits, Fits}
-use Rattle.state.proofs.Widths.{bool-within, cursor-within, from-within}
+use Rattle.state.proofs.Widths.{cursor-within, from-within}
 use Rattle.state.proofs.Padded.{length-field, length-name}
-use Rattle.state.proofs.Rows.{length-rows}
 use Rattle.state.proofs.Regions.{staged-long, bool-ok, rows-long}
 
 -- ---- a table
@@ -43,7 +44,7 @@ region-is limit width f l t n e =
 
 table-is : {A : Type 0} (limit width : ℕ) (f : Format A) (slot : A → List ℕ) → ((a : A) → slot a ≡ f .enc a) → (l : List A)
     → region limit width (map slot l) ≡ table limit width f .enc l
-table-is limit width f slot e l = region-is limit width f l (map slot l) (length-rows slot l) (rows-flat f slot e l)
+table-is limit width f slot e l = region-is limit width f l (map slot l) (length-map slot l) (rows-flat f slot e l)
 
 -- ---- values and slots
 
@@ -101,7 +102,7 @@ module _ (limits : Limits) where
   edits-length [] = refl
   edits-length (e ∷ m) =
       length-append (queue-slots limits (e .0) (e .1)) (edit-slots limits m)
-      ∙ ap₂ _+_ (length-rows (pending-slot limits (e .0)) (e .1)) (edits-length m)
+      ∙ ap₂ _+_ (length-map (pending-slot limits (e .0)) (e .1)) (edits-length m)
       ∙ sym (length-append (e .1) (entries-of m))
 
   width-is : pending-width limits ≡ entry-bytes limits

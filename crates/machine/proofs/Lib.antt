@@ -2,3 +2,5 @@
 pub mod Runs
 -- Effects and inserts.
 pub mod Steps
+-- A name by value.
+pub mod Names

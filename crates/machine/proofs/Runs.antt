@@ -13,6 +13,11 @@ use Rattle.state.specs.Contract.{Keeps, HasState, Reads, Edits, Tries}
 use Rattle.machine.specs.declared.Progress.{Progress}
 use Rattle.machine.specs.Contract.{Holds, Ran, Does, Changes, Pushes}
 
+pub bind-ok : (r : Run) → (r >>= ok) ≡ r
+unfolding _>>=_
+bind-ok (refused n) = refl
+bind-ok (ok m) = refl
+
 ran-then : (r : Run) (g : Machine → Run) (q s : Progress) (w o w′ o′ : List ℕ) → Ran r q w o → Does g w o q s w′ o′ → Ran (r >>= g) s w′ o′
 unfolding Ran _>>=_
 ran-then (refused n) g q s w o w′ o′ h d = (d .stays (λ z. h .1 (sym (h .0) ∙ z)) ∙ h .0, h .1)

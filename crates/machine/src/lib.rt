@@ -7,6 +7,7 @@ ghost use lib.Dec.{eqb, ltb};
 ghost use Rattle.tables.specs.Table.{text};
 ghost use Rattle.model.specs.Seam.{Request};
 ghost use Rattle.model.specs.Calls.{Notice, Effect};
+ghost use Rattle.model.specs.Formats.{resourceId};
 ghost use Rattle.model.specs.Maps.{by-name, get, is-some-and};
 ghost use Rattle.model.specs.Machine.{request};
 ghost use Rattle.model.specs.Sync.{learn, describe};
@@ -80,6 +81,17 @@ pub fn text_of(key: &[u8]) -> &[u8]
 {
     let end = tables::text_len(key) + 1;
     &key[1..end]
+}
+
+// A name by value.
+pub fn name_from(text: &[u8]) -> Name
+    requires { ⌜ resourceId .Ok (now text) ⌝ }
+    ensures { λ r. ⌜ (name-of (r .bytes) ≡ now (text .entry)) × Named (r .bytes) ⌝ }
+{
+    let mut bytes = [0u8; 33];
+    let start = Pen { at: 0, ok: true };
+    let end = start.text(&mut bytes, text);
+    Name { bytes }
 }
 
 // Notices

@@ -13,7 +13,7 @@ use Rattle.model.specs.Parts.{Role}
 use Rattle.model.specs.Maps.{same-text}
 use Rattle.model.specs.Formats.{same, shortText, tag, u32, idsF, fieldsF, eventF}
 use Rattle.model.specs.Merge.{merge}
-use Rattle.model.proofs.Tables.{same-is, same-self}
+use Rattle.model.proofs.Tables.{same-self, same-true}
 use Rattle.comparison.proofs.Laws.{same-cons}
 use Rattle.merge.specs.Given.{Begins}
 use Rattle.merge.specs.Parts.{eventOf}
@@ -37,14 +37,11 @@ agree true b f g = sym (f refl)
 agree false true f g = g refl
 agree false false f g = refl
 
-equal : (a b : List ℕ) → same-text a b ≡ true → a ≡ b
-equal a b e = same-is a b (rw e tt)
-
 -- and before a common end
 same-before : (a b x : List ℕ) → same-text (a ++ x) (b ++ x) ≡ same-text a b
 same-before a b x = agree (same-text (a ++ x) (b ++ x)) (same-text a b)
-    (λ e. rw (cancel a b x (equal (a ++ x) (b ++ x) e)) (same-self b))
-    (λ e. rw (equal a b e) (same-self (b ++ x)))
+    (λ e. rw (cancel a b x (same-true (a ++ x) (b ++ x) e)) (same-self b))
+    (λ e. rw (same-true a b e) (same-self (b ++ x)))
 
 between : (x y z a b w : List ℕ) → same-text (x ++ (y ++ (z ++ (a ++ w)))) (x ++ (y ++ (z ++ (b ++ w)))) ≡ same-text a b
 between x y z a b w =

@@ -103,10 +103,6 @@ and-three : (a b c : Bool) → (a && (b && c)) ≡ ((a && b) && c)
 and-three true b c = refl
 and-three false b c = refl
 
-and-true : (a : Bool) → (a && true) ≡ a
-and-true true = refl
-and-true false = refl
-
 nil-snoc : (y : List ℕ) (p l : ℕ) → same-text [] (y ++ (p ∷ l ∷ [])) ≡ false
 nil-snoc [] p l = same-short p (l ∷ [])
 nil-snoc (b ∷ y) p l = same-short b (y ++ (p ∷ l ∷ []))

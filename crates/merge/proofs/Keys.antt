@@ -11,12 +11,9 @@ use borrow.Author.Tests.{eq-eqb, ne-eqb, eqb-true, eqb-false}
 use Rattle.model.specs.Event.{Text, Attendee}
 use Rattle.model.specs.Maps.{if_then_else_, same-text, filter}
 use Rattle.model.specs.Merge.{to-ascii-lowercase, Key, same-key, Keyed, key-of, keyed-after, keyed, find}
-use Rattle.model.proofs.Tables.{same-is}
+use Rattle.model.proofs.Tables.{same-true}
 use Rattle.attendees.specs.Entries.{oneIf}
 use Rattle.merge.proofs.EntryParts.{nthIn}
-
-text-is : (a b : Text) → same-text a b ≡ true → a ≡ b
-text-is a b e = same-is a b (rw e tt)
 
 -- how many entries have a folded address
 abbrev pub tally : Keyed → Text → ℕ
@@ -89,11 +86,11 @@ module _ (k : Key) where
           ih z (omega arith) ∙ ap (λ (n : ℕ). nthIn (k .address) n l) (omega arith)
       go true true e f ih s u =
           let m : k .occurrence - tally out (k .address) ≡ 0 = eqb-true (k .occurrence - tally out (k .address)) 0 f in
-          let j : tally out (to-ascii-lowercase (a .address)) ≡ k .occurrence = ap (λ (w : Text). tally out w) (text-is (to-ascii-lowercase (a .address)) (k .address) e) ∙ omega arith in
+          let j : tally out (to-ascii-lowercase (a .address)) ≡ k .occurrence = ap (λ (w : Text). tally out w) (same-true (to-ascii-lowercase (a .address)) (k .address) e) ∙ omega arith in
           find-keeps l (out ++ (key-of out a, a) ∷ []) a (s ∙ rw (e, eq-eqb (tally out (to-ascii-lowercase (a .address))) (k .occurrence) j))
       go true false e f ih s u =
           let m = eqb-false (k .occurrence - tally out (k .address)) 0 f in
-          let q : tally out (to-ascii-lowercase (a .address)) ≡ tally out (k .address) = ap (λ (w : Text). tally out w) (text-is (to-ascii-lowercase (a .address)) (k .address) e) in
+          let q : tally out (to-ascii-lowercase (a .address)) ≡ tally out (k .address) = ap (λ (w : Text). tally out w) (same-true (to-ascii-lowercase (a .address)) (k .address) e) in
           let j = ne-eqb (tally out (to-ascii-lowercase (a .address))) (k .occurrence) (λ i. m (omega arith)) in
           let z : find (out ++ (key-of out a, a) ∷ []) k ≡ none = s ∙ rw (e, j) in
           let w : tally (out ++ (key-of out a, a) ∷ []) (k .address) ≡ tally out (k .address) + 1 = u ∙ rw e in

@@ -21,7 +21,7 @@ use Rattle.frame.specs.declared.Cursor.{Cursor}
 use Rattle.comparison.specs.Bytes.{span}
 use Rattle.pens.specs.Writing.{Wrote, Listed, flat}
 use Rattle.pens.specs.declared.Pen.{Pen}
-use Rattle.pens.proofs.Laws.{wrote-then}
+use Rattle.pens.proofs.Laws.{wrote-then, wrote-as}
 use Rattle.units.specs.Units.{unitBytes, unitsItems}
 use Rattle.attendees.specs.Entries.{entriesItems}
 use Rattle.merge.specs.Given.{Begins, Given}
@@ -80,12 +80,6 @@ unfolding writerOf
 writer-is s r e = e
 
 -- what is written, byte by byte
-
-pub wrote-as : {a b : List ℕ} {p q : Pen} {x y : List ℕ} → Wrote a b p q x → x ≡ y → Wrote a b p q y
-wrote-as {a = a} {b = b} {p = p} {q = q} W e = subst (λ x. Wrote a b p q x) e W
-
-pub listed-as : {a b : List ℕ} {p q : Pen} {n m : ℕ} {xs ys : List (List ℕ)} → Listed a b p n q m xs → xs ≡ ys → Listed a b p n q m ys
-listed-as {a = a} {b = b} {p = p} {q = q} {n = n} {m = m} L e = subst (λ xs. Listed a b p n q m xs) e L
 
 module _ (owner : Bool) (me base ours theirs b o t : List ℕ) (e : b ≡ unitBytes base 4) (f : o ≡ unitBytes ours 4) (g : t ≡ unitBytes theirs 4) where
   pub attendees-are : (which : ℕ) → entriesItems which owner me b o t ≡ attendeeItems which owner me base ours theirs

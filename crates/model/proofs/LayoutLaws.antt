@@ -9,7 +9,7 @@ use lib.ListN.{length, length-append}
 use lib.Dec.{T, leb, eqb, eqb→eq, lit<}
 use borrow.Author.Tests.{leb-true}
 use Rattle.format.specs.Format.{Got, Format, Lawful, All, mapGot, nothing, _⊗_, via, enum, _∣_, noCase, option, bool, below, number, list, such, padded, stamp}
-use Rattle.format.proofs.FormatLaws.{map-inv, pair-law, via-law, option-law, bool-law, below-law, list-law, such-law, padded-law, stamp-law}
+use Rattle.format.proofs.FormatLaws.{map-inv, pair-law, via-law, option-law, bool-law, below-law, list-law, such-law, padded-law, stamp-law, T-true}
 use Rattle.format.proofs.SizeLaws.{Within, Exactly, exactly-within, within-more, padded-exactly, pair-exactly, via-exactly, such-exactly, below-exactly, bool-exactly, number-exactly, list-within, option-within}
 use Rattle.model.specs.Seam.{RequestId, ResourceId}
 use Rattle.model.specs.State.{Map, Pass, Pending, Queue, SyncState}
@@ -24,16 +24,11 @@ use Rattle.model.specs.WellFormed.{all, rising, every, entry-rules, queu
 use Rattle.model.specs.Layout.{table, nameKey, numberKey, passBytes, entryTo, entryFrom, entryBytes, entries-of, put-first, queues-of, queuesBytes, partsBytes, stateBytes}
 use Rattle.model.proofs.FormatsLaws.{resourceId-law, shortText-law, u64-law, eventF-law, listFromF-law, operationF-law, roleF-law, conflictsF-law, refusalsF-law}
 use Rattle.model.proofs.SavedFormLaws.{stagedF-law, purposeF-law}
-use Rattle.model.proofs.Tables.{by-name-self, is-lt, and-left, and-right, same-is}
+use Rattle.model.proofs.Tables.{by-name-self, is-lt, and-left, and-right, same-is, name-order, rising-tail}
 use Rattle.model.proofs.Fitting.{all-append}
-use Rattle.model.proofs.Flights.{Full}
 use Rattle.model.proofs.OneInFlight.{every-at, all-full}
 use Rattle.model.proofs.Sizes.{id-within, text-size, event-within, operation-within, role-within, cursor-within, time-within, staged-within, from-within, purpose-within}
-use Rattle.model.proofs.StaysWellFormed.{some-length}
-
-true-of : {b : Bool} → T b → b ≡ true
-true-of {b = true} t = refl
-true-of {b = false} t = absurd t
+use Rattle.model.proofs.StaysWellFormed.{queues-few, all-weaken}
 
 -- ---- lawful
 
@@ -197,15 +192,11 @@ via-alike : {A B : Type 0} {f g : Format A} (to : A → B) (from : B → A) → 
 unfolding via
 via-alike to from F = record { there = λ b ok. F .there (from b) ok; back = λ b ok. F .back (from b) ok }
 
-all-alike : {A : Type 0} {P Q : A → Type 0} → ((a : A) → P a → Q a) → (l : List A) → All P l → All Q l
-all-alike k [] h = tt
-all-alike k (a ∷ l) h = (k a (h .0), all-alike k l (h .1))
-
 list-alike : {A : Type 0} {f g : Format A} (limit : ℕ) → Alike f g → Alike (list limit f) (list limit g)
 unfolding list
 list-alike limit F = record {
-  there = λ l ok. (ok .0, all-alike (F .there) l (ok .1));
-  back = λ l ok. (ok .0, all-alike (F .back) l (ok .1));
+  there = λ l ok. (ok .0, all-weaken _ _ (F .there) l (ok .1));
+  back = λ l ok. (ok .0, all-weaken _ _ (F .back) l (ok .1));
 }
 
 option-alike : {A : Type 0} {f g : Format A} → Alike f g → Alike (option f) (option g)
@@ -249,8 +240,8 @@ module _ (limits : Limits) where
   entry-there : (resource : ResourceId) (p : Pending) → pendingF limits .Ok p → T (entry-rules resource p) → entryBytes limits .Ok p
   unfolding pendingF editF entryBytes via _⊗_ entry-rules nameKey padded absorbed-bytes
   entry-there resource p ok t =
-      let c = leb-true _ _ (true-of (every-at _ 1 t)) in
-      let r = leb-true _ _ (true-of (every-at _ 2 t)) in (
+      let c = leb-true _ _ (T-true _ (every-at _ 1 t)) in
+      let r = leb-true _ _ (T-true _ (every-at _ 2 t)) in (
         nameKey-alike .there (p .edit .resource) (ok .0 .1 .0),
         (
           (ok .0 .0, text-size .bytes (p .edit .id) (ok .0 .0)),
@@ -331,17 +322,12 @@ module _ (limits : Limits) where
       let i : queues-of ((p′ ∷ q) ++ l) ≡ (r, p′ ∷ q) ∷ m = queue-back r (p′ ∷ q) m l e tt (and-right (entry-rules r p) (all (entry-rules r) (p′ ∷ q)) t) f in
       ap (put-first p) i ∙ rw (s, by-name-self r)
 
-  rising-rest : (e : ResourceId × Queue) (m : Map ResourceId Queue) → T (rising by-name (keys (e ∷ m))) → T (rising by-name (keys m))
-  unfolding rising keys map
-  rising-rest e [] t = tt
-  rising-rest e (f ∷ m) t = and-right (by (by-name (e .0) (f .0)) true false false) _ t
-
   queues-back : (m : Map ResourceId Queue) → T (all queue-rules m) → T (rising by-name (keys m)) → queues-of (entries-of m) ≡ m
-  unfolding entries-of queues-of all queue-rules
+  unfolding entries-of queues-of all queue-rules keys map
   queues-back [] t u = refl
   queues-back (e ∷ m) t u =
       let h : T (queue-rules e) = and-left (queue-rules e) (all queue-rules m) t in
-      queue-back (e .0) (e .1) m (entries-of m) (queues-back m (and-right (queue-rules e) (all queue-rules m) t) (rising-rest e m u))
+      queue-back (e .0) (e .1) m (entries-of m) (queues-back m (and-right (queue-rules e) (all queue-rules m) t) (rising-tail by-name name-order (e .0) m u))
       (and-left (not (is-empty (e .1))) _ h) (and-right (not (is-empty (e .1))) _ h) (first-new (e .0) (e .1) m u)
 
   queues-there : (m : Map ResourceId Queue) → Rows .Ok m → T (all queue-rules m) → T (rising by-name (keys m)) → waits m ≤ limits .waiting → queuesBytes limits .Ok m
@@ -349,11 +335,6 @@ module _ (limits : Limits) where
   queues-there m ok t u w =
       let few : length (entries-of m) ≤ limits .waiting = subst (λ (n : ℕ). n ≤ limits .waiting) (sym (entries-count m)) w in
       (padded-alike (list-within (limits .waiting) (exactly-within (entryBytes-exactly limits))) .there (entries-of m) (few, entries-there m (ok .1) t), queues-back m t u)
-
-  few-queues : (m : Map ResourceId Queue) → Full m → length m ≤ waits m
-  unfolding values map sum
-  few-queues [] f = omega arith
-  few-queues (e ∷ m) f = let h = few-queues m (f .1) in let k = some-length (e .1) (f .0) in omega arith
 
   key-ok : (r : ResourceId) (q : Queue) → T (not (is-empty q)) → T (all (entry-rules r) q) → All (entryBytes limits .Ok) q → resourceId .Ok r
   unfolding is-empty all entry-rules entryBytes via _⊗_ nameKey padded
@@ -367,13 +348,13 @@ module _ (limits : Limits) where
   rows-back (e ∷ m) w t a =
       let h : T (queue-rules e) = and-left (queue-rules e) (all queue-rules m) t in
       let b : All (entryBytes limits .Ok) (e .1) = all-front (entryBytes limits .Ok) (e .1) (entries-of m) a in (
-        (key-ok (e .0) (e .1) (and-left (not (is-empty (e .1))) _ h) (and-right (not (is-empty (e .1))) _ h) b, (omega arith, all-alike entry-back (e .1) b)),
+        (key-ok (e .0) (e .1) (and-left (not (is-empty (e .1))) _ h) (and-right (not (is-empty (e .1))) _ h) b, (omega arith, all-weaken _ _ entry-back (e .1) b)),
         rows-back m (omega arith) (and-right (queue-rules e) (all queue-rules m) t) (all-rest (entryBytes limits .Ok) (e .1) (entries-of m) a),
       )
 
   rows-of : (m : Map ResourceId Queue) → queuesBytes limits .Ok m → T (all queue-rules m) → waits m ≤ limits .waiting → Rows .Ok m
   unfolding queuesBytes table list padded
-  rows-of m ok t w = (let h = few-queues m (all-full m t) in omega arith, rows-back m w t (ok .0 .0 .1))
+  rows-of m ok t w = (let h = queues-few m (all-full m t) in omega arith, rows-back m w t (ok .0 .0 .1))
 
   -- ---- the state: the well-formed ones and no others
 
@@ -381,7 +362,7 @@ module _ (limits : Limits) where
   unfolding stateBytes such partsBytes stateF via _⊗_ rules
   state-there s w =
       let a = w .fits in
-      let q = queues-there (s .edits) (a .1 .1 .1 .0) (every-at (rules limits s) 7 (w .ruled)) (every-at (rules limits s) 2 (w .ruled)) (leb-true _ _ (true-of (every-at (rules limits s) 6 (w .ruled)))) in (
+      let q = queues-there (s .edits) (a .1 .1 .1 .0) (every-at (rules limits s) 7 (w .ruled)) (every-at (rules limits s) 2 (w .ruled)) (leb-true _ _ (T-true _ (every-at (rules limits s) 6 (w .ruled)))) in (
         (
           table-alike (limits .records) (pair-alike nameKey-alike (padded-alike event-within)) (pair-exactly nameKey-exactly (padded-exactly event-bytes eventF)) .there (s .records) (a .0),
           (
@@ -418,7 +399,7 @@ module _ (limits : Limits) where
   state-back s ok =
       let a = ok .0 in
       let t = ok .1 in
-      let q = rows-of (s .edits) (a .1 .1 .1 .0) (every-at (rules limits s) 7 t) (leb-true _ _ (true-of (every-at (rules limits s) 6 t))) in
+      let q = rows-of (s .edits) (a .1 .1 .1 .0) (every-at (rules limits s) 7 t) (leb-true _ _ (T-true _ (every-at (rules limits s) 6 t))) in
       record {
         fits = (
           table-alike (limits .records) (pair-alike nameKey-alike (padded-alike event-within)) (pair-exactly nameKey-exactly (padded-exactly event-bytes eventF)) .back (s .records) (a .0),

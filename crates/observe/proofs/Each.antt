@@ -1,11 +1,10 @@
 -- A loop over a list that was taken at the start. Assumes nothing.
-use Prim.Native.Nat.{ℕ, zero, suc, _+_, _<_}
-use native.Mathlib.Nat.{not-suc-le-zero, le-of-suc-le-suc}
+use Prim.Native.Nat.{ℕ, suc, _+_, _<_}
 use native.Mathlib.Omega.{arith}
 use mathlib.Core.Path.{_≡_, refl, sym, ap, _∙_}
-use mathlib.Core.List.{List, [], _∷_, _++_, append-nil}
+use mathlib.Core.List.{List, [], _∷_, _++_}
 use lib.ListN.{length, take, getD}
-use lib.Seq.{take-at}
+use lib.Seq.{take-suc, take-all}
 use Rattle.model.specs.Machine.{Machine, Run, refused, ok, _>>=_, for-each}
 use Rattle.model.specs.State.{SyncState}
 use Rattle.state.specs.Contract.{Keeps, HasState}
@@ -23,23 +22,10 @@ unfolding _>>=_
 bind-same (refused n) f g h = refl
 bind-same (ok m) f g h = h m
 
-pub bind-ok : (r : Run) → (r >>= ok) ≡ r
-unfolding _>>=_
-bind-ok (refused n) = refl
-bind-ok (ok m) = refl
-
-pub take-more : {A : Type 0} (d : A) (i : ℕ) (l : List A) → i < length l → take (suc i) l ≡ take i l ++ (getD l i d ∷ [])
-take-more d i [] h = absurd (not-suc-le-zero h)
-take-more d zero (x ∷ l) h = refl
-take-more {A} d (suc i) (x ∷ l) h = ap (λ (m : List A). x ∷ m) (take-more d i l (le-of-suc-le-suc h))
-
-pub take-whole : {A : Type 0} (l : List A) → take (length l) l ≡ l
-take-whole l = ap (take (length l)) (sym (append-nil l)) ∙ take-at l [] (length l) refl
-
 module _ {A : Type 0} (f : A → Machine → Run) where
   for-snoc : (l : List A) (x : A) (m : Machine) → for-each f (l ++ (x ∷ [])) m ≡ (for-each f l m >>= f x)
   unfolding for-each _>>=_
-  for-snoc [] x m = bind-ok (f x m)
+  for-snoc [] x m = runs.bind-ok (f x m)
   for-snoc (y ∷ l) x m = bind-same (f y m) (for-each f (l ++ (x ∷ []))) (λ n. for-each f l n >>= f x) (for-snoc l x) ∙ sym (bind-assoc (f y m) (for-each f l) (f x))
 
   pub each-start : (l : List A) {w o : List ℕ} {p : Progress} → Does (for-each f (take 0 l)) w o p p w o
@@ -50,12 +36,12 @@ module _ {A : Type 0} (f : A → Machine → Run) where
       → Does (for-each f (take (i + 1) l)) w o p s w₂ o₂
   each-turn l d i h D E =
       let n : i + 1 ≡ suc i = omega arith in
-      runs.is (for-each f (take (i + 1) l)) (λ m. sym (ap (λ (k : ℕ). for-each f (take k l) m) n ∙ ap (λ (x : List A). for-each f x m) (take-more d i l h) ∙ for-snoc (take i l) (getD l i d) m))
+      runs.is (for-each f (take (i + 1) l)) (λ m. sym (ap (λ (k : ℕ). for-each f (take k l) m) n ∙ ap (λ (x : List A). for-each f x m) (take-suc l i d h) ∙ for-snoc (take i l) (getD l i d) m))
       (runs.next D E)
 
   pub each-end : (l : List A) (i : ℕ) {w o w₁ o₁ : List ℕ} {p q : Progress} → i ≡ length l → Does (for-each f (take i l)) w o p q w₁ o₁ → Does (for-each f l) w o p q w₁ o₁
   each-end l i e D =
-      let t : take i l ≡ l = ap (λ (k : ℕ). take k l) e ∙ take-whole l in
+      let t : take i l ≡ l = ap (λ (k : ℕ). take k l) e ∙ take-all (length l) l (omega arith) in
       runs.is (for-each f l) (λ m. ap (λ (x : List A). for-each f x m) t) D
 
 -- what is done depends on a value of the state

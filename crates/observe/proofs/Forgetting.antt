@@ -1,13 +1,14 @@
 -- `forget_settled` and `forget_aliases`. Assumes nothing.
-use Prim.Native.Nat.{ℕ, suc, _+_, _-_, _≤_, _<_, Ordering, Ordering·lt, Ordering·eq, Ordering·gt}
+use Prim.Native.Nat.{ℕ, _+_, _-_, _≤_, _<_, Ordering, Ordering·lt, Ordering·eq, Ordering·gt}
 use native.Mathlib.Omega.{arith}
 use mathlib.Core.Path.{_≡_, refl, sym, ap, ap₂, _∙_, subst}
-use mathlib.Core.List.{List, [], _∷_, _++_, append-assoc}
+use mathlib.Core.List.{List, [], _∷_, _++_}
 use mathlib.Core.Option.{Option, none, some, Option·some-injective, Option·none-ne-some}
 use mathlib.Core.Bool.{Bool, true, false, _||_}
-use mathlib.Core.Logic.{inl, inr, ⊎-elim}
-use lib.ListN.{length, getD, length-append}
+use mathlib.Core.Logic.{inl, inr}
+use lib.ListN.{length, getD}
 use lib.Dec.{T, leb}
+use lib.Seq.{getD-append-seam}
 use borrow.Author.Tests.{le-leb, lt-leb}
 use Rattle.format.specs.Format.{All}
 use Rattle.tables.specs.Table.{Table, Sized, encTable, text, place}
@@ -18,12 +19,12 @@ use Rattle.model.specs.Event.{Text}
 use Rattle.model.specs.Seam.{ResourceId}
 use Rattle.model.specs.State.{Map, Pass, Queue, SyncState}
 use Rattle.model.specs.Limits.{document01}
-use Rattle.model.specs.Maps.{if_then_else_, by, by-name, any, filter, first, get, remove, map, keys, values, retain, has, is-some, is-some-and}
+use Rattle.model.specs.Maps.{if_then_else_, by, by-name, any, first, get, remove, keys, values, retain, has, is-some, is-some-and}
 use Rattle.model.specs.Formats.{resourceId}
 use Rattle.model.specs.WellFormed.{rising}
 use Rattle.model.specs.Machine.{Machine, match_none:_some:_, with-state, set-learned, set-learned-all, set-aliases}
 use Rattle.model.specs.Sync.{asks-about, in-flight-any, forget-all, forget-before, forget-settled, held-anywhere, forget-aliases}
-use Rattle.model.proofs.Tables.{turned, and-left, and-right, is-lt, by-name-self, by-name-turned, by-name-trans}
+use Rattle.model.proofs.Tables as orders
 use Rattle.state.specs.Layout.{name-slot, pass-of, no-pass}
 use Rattle.state.specs.Setters.{with-learned, with-learned-all, with-aliases}
 use Rattle.state.specs.Fits.{QueueFits}
@@ -34,6 +35,7 @@ use Rattle.state.specs.declared.Numbered.the-variants as numbered
 use Rattle.state.proofs.Padded.{text-name-only}
 use Rattle.state.proofs.Columns as columns
 use Rattle.state.proofs.Ops as ops
+use Rattle.state.proofs.Retaining as retaining
 use Rattle.staged.specs.Staging.{staged-of}
 use Rattle.staged.proofs.Laws as staged
 use Rattle.waiting.specs.Queues.{queue, queue-in}
@@ -220,32 +222,8 @@ from-named w b i K l R = ops.slot-named b (alias-at i (K .state) .0) (fit w i (K
 
 -- ---- an alias taken out from between others
 
-below : (x : Text) (m : Rows) (e : Entry) (rest : Rows) → T (rising by-name (x ∷ keys (m ++ (e ∷ rest)))) → by-name x (e .0) ≡ Ordering·lt
-unfolding rising keys map
-below x [] e rest t = is-lt (by-name x (e .0)) (and-left (by (by-name x (e .0)) true false false) _ t)
-below x (y ∷ m) e rest t =
-    by-name-trans x (y .0) (e .0) (is-lt (by-name x (y .0)) (and-left (by (by-name x (y .0)) true false false) _ t)) (below (y .0) m e rest (and-right (by (by-name x (y .0)) true false false) _ t))
-
-rest-rises : (x : Text) (l : List Text) → T (rising by-name (x ∷ l)) → T (rising by-name l)
-unfolding rising
-rest-rises x [] t = tt
-rest-rises x (y ∷ l) t = and-right (by (by-name x y) true false false) _ t
-
-remove-between : (kept : Rows) (e : Entry) (rest : Rows) → T (rising by-name (keys (kept ++ (e ∷ rest)))) → remove by-name (e .0) (kept ++ (e ∷ rest)) ≡ kept ++ rest
-unfolding remove by keys map
-remove-between [] e rest t = rw (by-name-self (e .0))
-remove-between (x ∷ kept) e rest t =
-    let l : by-name (x .0) (e .0) ≡ Ordering·lt = below (x .0) kept e rest t in
-    let g : by-name (e .0) (x .0) ≡ Ordering·gt = by-name-turned (x .0) (e .0) ∙ ap turned l in
-    let h : remove by-name (e .0) (kept ++ (e ∷ rest)) ≡ kept ++ rest = remove-between kept e rest (rest-rises (x .0) (keys (kept ++ (e ∷ rest))) t) in
-    rw (g, h)
-
-between : (kept : Rows) (e : Entry) (rest : Rows) → getD (kept ++ (e ∷ rest)) (length kept) ([], []) ≡ e
-between [] e rest = refl
-between (x ∷ kept) e rest = between kept e rest
-
 here : (i : ℕ) (s : SyncState) (kept rest : Rows) (e : Entry) → s .aliases ≡ kept ++ (e ∷ rest) → length kept ≡ i → alias-at i s ≡ e
-here i s kept rest e q l = ap₂ (λ (m : Rows) (j : ℕ). getD m j ([], [])) q (sym l) ∙ between kept e rest
+here i s kept rest e q l = ap₂ (λ (m : Rows) (j : ℕ). getD m j ([], [])) q (sym l) ∙ getD-append-seam kept e rest ([], [])
 
 to-here : (b w : List ℕ) (i : ℕ) (s : SyncState) → Keeps s w → Reads (λ s. name-slot (getD (s .aliases) i ([], []) .1)) w b → (kept rest : Rows) (e : Entry) → s .aliases ≡ kept ++ (e ∷ rest) → length kept ≡ i → name-of b ≡ e .1
 to-here b w i s h R kept rest e q l = ap text (R .is s h) ∙ text-name-only (alias-at i s .1) ∙ ap (λ (x : Entry). x .1) (here i s kept rest e q l)
@@ -264,7 +242,7 @@ out-one b f w w′ i a R A z F E = record {
   is = λ s h kept rest e q l.
       let n : name-of f ≡ e .0 = from-here f w i s h F kept rest e q l in
       let t : T (rising by-name (keys (kept ++ (e ∷ rest)))) = subst (λ (m : Rows). T (rising by-name (keys m))) q (h .fits .aliases .rises) in
-      let c : remove by-name (name-of f) (s .aliases) ≡ kept ++ rest = ap₂ (remove by-name) n q ∙ remove-between kept e rest t in
+      let c : remove by-name (name-of f) (s .aliases) ≡ kept ++ rest = ap₂ (remove by-name) n q ∙ orders.remove-between by-name orders.name-order kept e rest t in
       inr (ap (λ (n : Text). held-in n s) (sym (to-here b w i s h R kept rest e q l)) ∙ sym (A .is s h) ∙ z, refl, subst (λ (m : Rows). Keeps (with-aliases m s) w′) c (E .makes s h));
 }
 
@@ -273,77 +251,14 @@ out-one b f w w′ i a R A z F E = record {
 abbrev held-entry : SyncState → Entry → Bool
 held-entry s e = held-in (e .1) s
 
--- the aliases so far, and those that are left
-pub record Retained (s : SyncState) (w : List ℕ) (i left : ℕ) : Type 0 where
-  pub kept : Rows
-  pub rest : Rows
-  pub here : Keeps (with-aliases (kept ++ rest) s) w
-  pub want : filter (held-entry s) (s .aliases) ≡ kept ++ filter (held-entry s) rest
-  pub at : length kept ≡ i
-  pub todo : length rest ≡ left
-
-pub record Retaining (w₀ w : List ℕ) (i left : ℕ) : Type 0 where
-  pub part : (s : SyncState) → Keeps s w₀ → Retained s w i left
+abbrev pub Retaining : List ℕ → List ℕ → ℕ → ℕ → Type 0
+Retaining = retaining.Retaining (λ s. s .aliases) with-aliases held-entry
 
 pub retain-start : (w : List ℕ) (n : ℕ) → Reads (λ s. length (s .aliases)) w n → Retaining w w 0 n
-retain-start w n R = record { part = λ s h. record { kept = []; rest = s .aliases; here = h; want = refl; at = refl; todo = sym (R .is s h) } }
-
-pub retain-has : (w₀ w : List ℕ) (i left : ℕ) → HasState w₀ → Retaining w₀ w i left → HasState w
-retain-has w₀ w i left K R = let P = R .part (K .state) (K .keeps) in record { state = with-aliases (P .kept ++ P .rest) (K .state); keeps = P .here }
+retain-start w n R = retaining.retain-start w n (λ s h. h) R
 
 pub retain-below : (w₀ w : List ℕ) (i left : ℕ) → HasState w₀ → Retaining w₀ w i left → 0 < left → i < getD w 58014 0
-retain-below w₀ w i left K R l =
-    let P = R .part (K .state) (K .keeps) in
-    let c = columns.counted ops.alias-column (with-aliases (P .kept ++ P .rest) (K .state)) w (P .here) in
-    let n : length (P .kept ++ P .rest) ≡ length (P .kept) + length (P .rest) = length-append (P .kept) (P .rest) in
-    let a = P .at in
-    let b = P .todo in
-    omega arith
-
-filter-in : (q : Entry → Bool) (e : Entry) (m : Rows) (b : Bool) → q e ≡ b → filter q (e ∷ m) ≡ (if b then e ∷ filter q m else filter q m)
-unfolding filter
-filter-in q e m b z = ap (λ (x : Bool). if x then e ∷ filter q m else filter q m) z
-
-turn : (s : SyncState) (w w′ : List ℕ) (i left r : ℕ) (kept rest : Rows) → Keeps (with-aliases (kept ++ rest) s) w → filter (held-entry s) (s .aliases) ≡ kept ++ filter (held-entry s) rest → length kept ≡ i → length rest ≡ left
-    → 0 < left → Tested i w r w′ → Retained s w′ r (left - 1)
-unfolding if_then_else_
-turn s w w′ i left r kept [] h q a b l T = absurd (let z : 0 ≡ left = b in omega arith)
-turn s w w′ i left r kept (e ∷ rest) h q a b l T =
-    let z : suc (length rest) ≡ left = b in
-    ⊎-elim
-    (λ u.
-    let n : length (kept ++ (e ∷ [])) ≡ length kept + 1 = length-append kept (e ∷ []) in
-    let o : r ≡ i + 1 = u .1 in
-    record {
-      kept = kept ++ (e ∷ []);
-      rest = rest;
-      here = subst (λ (m : Rows). Keeps (with-aliases m s) w′) (sym (append-assoc kept (e ∷ []) rest)) (u .2);
-      want = q ∙ ap (λ (m : Rows). kept ++ m) (filter-in (held-entry s) e rest true (u .0)) ∙ sym (append-assoc kept (e ∷ []) (filter (held-entry s) rest));
-      at = omega arith;
-      todo = omega arith;
-    })
-    (λ u.
-    record {
-      kept = kept;
-      rest = rest;
-      here = u .2;
-      want = q ∙ ap (λ (m : Rows). kept ++ m) (filter-in (held-entry s) e rest false (u .0));
-      at = a ∙ sym (u .1);
-      todo = omega arith;
-    })
-    (T .is (with-aliases (kept ++ (e ∷ rest)) s) h kept rest e refl a)
+retain-below w₀ w i left K R l = retaining.retain-below w₀ w i left (getD w 58014 0) (λ s m. refl) K R l (record { is = λ s h. columns.counted ops.alias-column s w h })
 
 pub retain-turn : (w₀ w w′ : List ℕ) (i left r : ℕ) → Retaining w₀ w i left → 0 < left → Tested i w r w′ → Retaining w₀ w′ r (left - 1)
-retain-turn w₀ w w′ i left r R l T = record {
-  part = λ s h. let P = R .part s h in turn s w w′ i left r (P .kept) (P .rest) (P .here) (P .want) (P .at) (P .todo) l T;
-}
-
-ended : (s : SyncState) (w : List ℕ) (kept rest : Rows) → Keeps (with-aliases (kept ++ rest) s) w → filter (held-entry s) (s .aliases) ≡ kept ++ filter (held-entry s) rest → length rest ≡ 0 → Keeps (with-held-aliases s) w
-unfolding filter
-ended s w kept [] h q z = subst (λ (m : Rows). Keeps (with-aliases m s) w) (sym q) h
-ended s w kept (e ∷ rest) h q z = absurd (let y : suc (length rest) ≡ 0 = z in omega arith)
-
-pub retain-end : (w₀ w : List ℕ) (i left : ℕ) → left ≤ 0 → Retaining w₀ w i left → Edits with-held-aliases w₀ w
-retain-end w₀ w i left l R = record {
-  makes = λ s h. let P = R .part s h in let b : length (P .rest) ≡ left = P .todo in ended s w (P .kept) (P .rest) (P .here) (P .want) (omega arith);
-}
+retain-turn w₀ w w′ i left r R l T = retaining.retain-turn w₀ w w′ i left r R l (λ s kept rest e h a. T .is (with-aliases (kept ++ (e ∷ rest)) s) h kept rest e refl a)

@@ -1,20 +1,18 @@
 -- Names and events that stand in bytes: what the functions that take them out answer. Assumes nothing.
-use Prim.Native.Nat.{ℕ, suc, _+_, _-_, _≤_}
+use Prim.Native.Nat.{ℕ, _+_, _-_, _≤_}
 use native.Mathlib.Omega.{arith}
-use mathlib.Core.Path.{_≡_, refl, sym, ap, _∙_, subst}
-use mathlib.Core.List.{List, [], _∷_, _++_, append-assoc}
+use mathlib.Core.Path.{_≡_, sym, ap, _∙_, subst}
+use mathlib.Core.List.{List, [], _++_, append-assoc}
 use mathlib.Core.Option.{Option, none, some, Option·some-injective, Option·none-ne-some}
 use mathlib.Core.Bool.{Bool, true}
 use lib.ListN.{length, take, drop, length-take}
 use Rattle.format.specs.Format.{Got, option, via, _⊗_, enum, _∣_, below}
-use Rattle.format.specs.Format.{text as text-format}
-use Rattle.spans.specs.Bytes.{zeros}
 use Rattle.model.specs.Event.{Text, ProviderEvent}
 use Rattle.model.specs.Seam.{ResourceId, resource-of}
-use Rattle.model.specs.Limits.{max-id}
 use Rattle.model.specs.Formats.{resourceId, eventId, shortText, u32, tag, providerF, idsF, fieldsF, eventF}
 use Rattle.model.proofs.FormatsLaws.{resourceId-law}
 use Rattle.model.specs.Sync.{observe}
+use Rattle.model.proofs.ValidParts.{event-name}
 use Rattle.frame.specs.Read.{stepped, skips, valueOf, valueAt, kept, valueIn, readAt, Means}
 use Rattle.frame.specs.Meaning.{noEvent, resourceAt, eventAt, optionEventAt}
 use Rattle.frame.specs.declared.Cursor.{Cursor}
@@ -23,34 +21,13 @@ use Rattle.frame.proofs.Spans.{span}
 use Rattle.values.specs.Parts.{meantListed}
 use Rattle.values.specs.declared.Listed.{Listed}
 use Rattle.values.specs.declared.Listed.the-variants.{Nothing, Event}
-use Rattle.state.specs.Layout.{padded}
-use Rattle.state.specs.Values.{name-of, Named}
-use Rattle.state.proofs.Ops as ops
 use Rattle.records.specs.Events.{IsEvent}
-use Rattle.records.proofs.Laws as records
 use Rattle.versions.proofs.Laws as versions
 use Rattle.machine.specs.declared.Progress.{Progress}
 use Rattle.machine.specs.Contract.{Changes}
 use Rattle.observe.proofs.Observing as observing
 
--- ---- a name by value
-
-pub id-short : (t : Text) → resourceId .Ok t → length t ≤ 32
-unfolding text-format max-id
-id-short t k = k .0
-
-pub name-made : (t r1 r2 : List ℕ) → resourceId .Ok t → r1 ≡ take 0 (zeros 33) ++ ((length t ∷ []) ++ drop (0 + 1) (zeros 33)) → r2 ≡ take 1 r1 ++ (t ++ drop (1 + length t) r1) → (name-of r2 ≡ t) × Named r2
-unfolding padded text-format
-name-made t r1 r2 k p q =
-    let l = id-short t k in
-    let n : 32 - length t ≡ 33 - suc (length t) = omega arith in
-    ops.slot-named r2 t k (records.filled 1 32 (zeros 33) (length t ∷ []) t r1 r2 refl l refl p q ∙ ap (λ (m : ℕ). length t ∷ (t ++ zeros m)) n)
-
 -- ---- an event's own name
-
-id-ok : (e : ProviderEvent) → eventF .Ok e → resourceId .Ok (resource-of e)
-unfolding eventF idsF via _⊗_
-id-ok e k = k .0 .1 .0
 
 rest-of : ProviderEvent → List ℕ
 rest-of e = (option eventId .enc (e .ids .ical-uid) ++ option eventId .enc (e .ids .series-id)) ++ (option shortText .enc (e .revision) ++ (u32 .enc (e .mapper-version) ++ (fieldsF .enc (e .fields) ++ tag .enc (e .passthrough))))
@@ -62,10 +39,10 @@ behind e = append-assoc (resourceId .enc (resource-of e)) (option eventId .enc (
 
 id-read : (e : ProviderEvent) (b : List ℕ) → eventF .Ok e → b ≡ eventF .enc e → resourceAt b 1 ≡ resource-of e
 unfolding valueAt
-id-read e b k q = ap (λ (x : Got Text). valueOf [] x) (ap (λ (x : List ℕ). resourceId .dec (drop 1 x)) q ∙ ap (resourceId .dec) (behind e) ∙ resourceId-law .writes (resource-of e) (id-ok e k) (rest-of e))
+id-read e b k q = ap (λ (x : Got Text). valueOf [] x) (ap (λ (x : List ℕ). resourceId .dec (drop 1 x)) q ∙ ap (resourceId .dec) (behind e) ∙ resourceId-law .writes (resource-of e) (event-name e k) (rest-of e))
 
 pub id-fits : (b t : List ℕ) → IsEvent b → t ≡ resourceAt b 1 → resourceId .Ok t
-id-fits b t E q = subst (λ (x : Text). resourceId .Ok x) (sym (q ∙ id-read (E .event) b (E .ok) (E .is))) (id-ok (E .event) (E .ok))
+id-fits b t E q = subst (λ (x : Text). resourceId .Ok x) (sym (q ∙ id-read (E .event) b (E .ok) (E .is))) (event-name (E .event) (E .ok))
 
 pub id-is : (b t : List ℕ) (n : Text) → t ≡ resourceAt b 1 → n ≡ t → (e : ProviderEvent) → eventF .Ok e → b ≡ eventF .enc e → n ≡ resource-of e
 id-is b t n q d e k r = d ∙ q ∙ id-read e b k r

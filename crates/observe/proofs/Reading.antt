@@ -4,9 +4,10 @@ use native.Mathlib.Omega.{arith}
 use mathlib.Core.Path.{_≡_, refl, sym, ap, ap₂, _∙_, subst}
 use mathlib.Core.List.{List, [], _∷_, _++_, append-nil}
 use mathlib.Core.Option.{Option, none, some}
-use mathlib.Core.Bool.{Bool, true, false, not, _&&_, _||_}
+use mathlib.Core.Bool.{Bool, true, false, not, _&&_}
 use lib.ListN.{length, take, drop, getD, length-replicate}
 use lib.Dec.{leb}
+use lib.Seq.{take-suc, take-all}
 use Rattle.spans.specs.Bytes.{zeros}
 use Rattle.model.specs.Event.{Text}
 use Rattle.model.specs.Seam.{ResourceId, Request}
@@ -17,6 +18,7 @@ use Rattle.model.specs.Formats.{same}
 use Rattle.model.specs.SavedForm.{purposeF}
 use Rattle.model.specs.Machine.{Machine, Run, refused, ok, _>>=_, for-each, match_none:_some:_, within, request, with-state, in-pass, change-pass, set-pass, with-staged, with-seen, with-observed, stage, see, watch}
 use Rattle.model.specs.Sync.{is-unread, pass-reads, refreshes, in-flight-any, unread, read-unread, learn, doubt-in-pass, doubt}
+use Rattle.model.proofs.Fitting.{any-same}
 use Rattle.state.specs.Layout.{padded, name-slot, pass-of, no-pass}
 use Rattle.state.specs.Setters.{with-pass, pass-changed}
 use Rattle.state.specs.Contract.{Keeps, HasState, Reads, Tries}
@@ -105,7 +107,7 @@ one-key f e false z = ap (λ (x : Bool). keys (if x then e ∷ [] else [])) z
 more : (i : ℕ) (s : SyncState) (b : Bool) → i < length (staged-of s) → to-read s (staged-at i s) ≡ b → unread-of (i + 1) s ≡ unread-of i s ++ last-of b (staged-at i s .0)
 more i s b l z =
     let n : i + 1 ≡ suc i = omega arith in
-    ap (λ (k : ℕ). unread-of k s) n ∙ ap (λ (x : Map ResourceId Staged). keys (filter (to-read s) x)) (each.take-more ([], Staged.Unread) i (staged-of s) l)
+    ap (λ (k : ℕ). unread-of k s) n ∙ ap (λ (x : Map ResourceId Staged). keys (filter (to-read s) x)) (take-suc (staged-of s) i ([], Staged.Unread) l)
     ∙ ap keys (filter-append (to-read s) (take i (staged-of s)) (staged-at i s ∷ [])) ∙ keys-append (filter (to-read s) (take i (staged-of s))) (filter (to-read s) (staged-at i s ∷ []))
     ∙ ap (λ (x : List Text). unread-of i s ++ x) (one-key (to-read s) (staged-at i s) b z)
 
@@ -120,11 +122,6 @@ unfolding unread-kind is-unread
 kind-unread (Staged.Present e) = refl
 kind-unread Staged.Unread = refl
 kind-unread Staged.Removed = refl
-
-any-same : (p q : Purpose → Bool) → ((x : Purpose) → p x ≡ q x) → (l : List Purpose) → any p l ≡ any q l
-unfolding any
-any-same p q h [] = refl
-any-same p q h (x ∷ l) = ap₂ _||_ (h x) (any-same p q h l)
 
 staged-below : (w : List ℕ) (i : ℕ) (s : SyncState) → Keeps s w → i < getD w 9221 0 → i < length (staged-of s)
 staged-below w i s h l = let c = columns.counted staged.staged-column s w h in omega arith
@@ -211,7 +208,7 @@ pub noted-end : (w b : List ℕ) (n : ℕ) → Noted (getD w 9221 0) n w b → L
 noted-end w b n N = record {
   is = λ s h.
       let c = columns.counted staged.staged-column s w h in
-      let t : take (getD w 9221 0) (staged-of s) ≡ staged-of s = ap (λ (k : ℕ). take k (staged-of s)) c ∙ each.take-whole (staged-of s) in
+      let t : take (getD w 9221 0) (staged-of s) ≡ staged-of s = ap (λ (k : ℕ). take k (staged-of s)) c ∙ take-all (length (staged-of s)) (staged-of s) (omega arith) in
       subst (λ (x : Map ResourceId Staged). Listed (keys (filter (to-read s) x)) n b) t (N .is s h);
 }
 
@@ -230,15 +227,17 @@ pub named-in : (b q : List ℕ) (i count : ℕ) → HasList count b → i < coun
     → ((listed : List Text) (count : ℕ) → Listed listed count b → i < count → (q ≡ name-slot (getD listed i [])) × Named q) → Named q
 named-in b q i count H l g = g (H .names) count (H .listed) l .1
 
-pub read-turn : (l : List Text) (i count : ℕ) {w o w₁ o₁ w₂ o₂ : List ℕ} {p q s : Progress} (b : List ℕ) → i < count → (x : List ℕ) → Listed l count x → b ≡ name-slot (getD l i [])
-    → Does (for-each read-for-pass (take i l)) w o p q w₁ o₁ → Does (read-for-pass (name-of b)) w₁ o₁ q s w₂ o₂ → Does (for-each read-for-pass (take (i + 1) l)) w o p s w₂ o₂
-read-turn l i count {w₁ = w₁} {o₁} {w₂} {o₂} {q = q} {s} b h x L e D E =
-    let c : count ≡ length l = L .many in
-    let n : name-of b ≡ getD l i [] = ap text e ∙ text-name-only (getD l i []) in
-    each.each-turn read-for-pass l [] i (omega arith) D (subst (λ (r : Text). Does (read-for-pass r) w₁ o₁ q s w₂ o₂) n E)
+-- a function called for each name of a list
+module _ (f : ResourceId → Machine → Run) where
+  pub list-turn : (l : List Text) (i count : ℕ) {w o w₁ o₁ w₂ o₂ : List ℕ} {p q s : Progress} (b : List ℕ) → i < count → (x : List ℕ) → Listed l count x → b ≡ name-slot (getD l i [])
+      → Does (for-each f (take i l)) w o p q w₁ o₁ → Does (f (name-of b)) w₁ o₁ q s w₂ o₂ → Does (for-each f (take (i + 1) l)) w o p s w₂ o₂
+  list-turn l i count {w₁ = w₁} {o₁} {w₂} {o₂} {q = q} {s} b h x L e D E =
+      let c : count ≡ length l = L .many in
+      let n : name-of b ≡ getD l i [] = ap text e ∙ text-name-only (getD l i []) in
+      each.each-turn f l [] i (omega arith) D (subst (λ (r : Text). Does (f r) w₁ o₁ q s w₂ o₂) n E)
 
-pub read-all : (l : List Text) (i count : ℕ) {w o w₁ o₁ : List ℕ} {p q : Progress} (x : List ℕ) → i ≤ count → count ≤ i → Listed l count x → Does (for-each read-for-pass (take i l)) w o p q w₁ o₁ → Does (for-each read-for-pass l) w o p q w₁ o₁
-read-all l i count x a b L D = let c : count ≡ length l = L .many in each.each-end read-for-pass l i (omega arith) D
+  pub list-all : (l : List Text) (i count : ℕ) {w o w₁ o₁ : List ℕ} {p q : Progress} (x : List ℕ) → i ≤ count → count ≤ i → Listed l count x → Does (for-each f (take i l)) w o p q w₁ o₁ → Does (for-each f l) w o p q w₁ o₁
+  list-all l i count x a b L D = let c : count ≡ length l = L .many in each.each-end f l i (omega arith) D
 
 read-unread-is : (m : Machine) → for-each read-for-pass (all-unread (m .state)) m ≡ read-unread m
 unfolding read-unread in-pass unread in-flight-any retain match_none:_some:_ pass-of no-pass filter keys map for-each

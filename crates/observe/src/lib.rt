@@ -9,7 +9,6 @@ mod refresh;
 pub use forget::forget_aliases;
 pub use forget::forget_settled;
 pub use observations::event_part;
-pub use observations::name_from;
 pub use observations::observe_at;
 pub use observations::observe_gone;
 pub use observations::observe_read;

@@ -20,25 +20,12 @@ ghost use Rattle.records.specs.Events.{IsEvent};
 ghost use Rattle.machine.specs.Contract.{Changes};
 ghost use Rattle.observe.specs.Observing.{see-or-watch, watch-unless-done};
 
-// A name by value.
-pub fn name_from(text: &[u8]) -> Name
-    requires { ⌜ resourceId .Ok (now text) ⌝ }
-    ensures { λ r. ⌜ (name-of (r .bytes) ≡ now (text .entry)) × Named (r .bytes) ⌝ }
-{
-    let n = text.len() as u8;
-    let count = [n; 1];
-    let mut bytes = [0u8; 33];
-    tables::put_slot(&mut bytes, 0, &count);
-    tables::put_slot(&mut bytes, 1, text);
-    Name { bytes }
-}
-
 // ResourceId::of
 pub fn resource_of(event: &[u8]) -> Name
     requires { ⌜ IsEvent (now event) ⌝ }
     ensures { λ r. ⌜ (((e : ProviderEvent) → eventF .Ok e → now (event .entry) ≡ eventF .enc e → name-of (r .bytes) ≡ resource-of e)) × Named (r .bytes) ⌝ }
 {
-    name_from(frame::resource_at(event, 1))
+    machine::name_from(frame::resource_at(event, 1))
 }
 
 fn see_or_watch(work: &mut [u8], p: Progress, name: Name) -> Progress

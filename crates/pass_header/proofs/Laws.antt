@@ -14,7 +14,7 @@ use Rattle.tables.proofs.Laws as tables
 use Rattle.lent.specs.Lent.{placed}
 use Rattle.model.specs.Event.{Text}
 use Rattle.model.specs.Seam.{Cursor, ListFrom}
-use Rattle.model.specs.State.{Pass, SyncState}
+use Rattle.model.specs.State.{SyncState}
 use Rattle.model.specs.Limits.{max-text}
 use Rattle.model.specs.Maps.{is-some}
 use Rattle.model.specs.Machine.{with-from, with-done}
@@ -26,6 +26,7 @@ use Rattle.state.specs.Contract.{Keeps, HasState, Reads, Edits}
 use Rattle.state.proofs.Widths.{cursor-within, from-within}
 use Rattle.state.proofs.Padded.{length-field, length-padded}
 use Rattle.state.proofs.Parts as parts
+use Rattle.state.proofs.Fresh.{no-pass-fits}
 use Rattle.pass_tables.proofs.Laws as pass
 use Rattle.pass_header.proofs.Regions as regions
 use Rattle.pass_header.specs.From.{kind-of, kind-from, text-of, from-in, cursor-text-of}
@@ -137,7 +138,7 @@ cursor-taken q w w′ e p = record {
 
 pub pass-closed : (w w′ : List ℕ) → w′ ≡ placed 9185 10817 (zeros 10817) w → Edits (with-pass none) w w′
 pass-closed w w′ e = record {
-  makes = λ s h. subst (Keeps (with-pass none s)) (sym (e ∙ ap (λ (x : List ℕ). placed 9185 10817 x w) (sym regions.no-pass-bytes))) (regions.pass-put s w none h regions.no-pass-fits);
+  makes = λ s h. subst (Keeps (with-pass none s)) (sym (e ∙ ap (λ (x : List ℕ). placed 9185 10817 x w) (sym regions.no-pass-bytes))) (regions.pass-put s w none h no-pass-fits);
 }
 
 full-is : (c : Option Cursor) (first full : ℕ) → first ≡ getD (field 34 (option shortText) c) 0 0 → (first ≡ 0 → full ≡ 1) × ((first ≡ 0 → ⊥) → full ≡ 0) → full ≡ boolFrom (not (is-some c))
@@ -177,9 +178,6 @@ pass-opened w w1 w2 w3 q full f e e1 e2 e3 = record {
 }
 
 -- ---- from and done
-
-pub unchanged : (f : Pass → Pass) (w : List ℕ) → getD w 9185 0 ≡ 0 → Edits (pass-changed f) w w
-unchanged f w z = record { makes = λ s h. subst (λ (x : SyncState). Keeps x w) (pass.pass-none f s (pass.closed s w h z)) h }
 
 pub short-long : (t : Text) → shortText .Ok t → length t ≤ 32
 unfolding text-format max-text

@@ -1,5 +1,5 @@
 -- All regions of a pass at once: another pass, or none, in their place. Assumes nothing.
-use Prim.Native.Nat.{ℕ, suc, _+_, _-_}
+use Prim.Native.Nat.{ℕ, _+_}
 use native.Mathlib.Omega.{arith}
 use mathlib.Core.Path.{_≡_, refl, sym, ap, ap₂, _∙_}
 use mathlib.Core.List.{List, [], _∷_, _++_}
@@ -9,6 +9,7 @@ use lib.ListN.{length, drop, replicate-append-replicate}
 use lib.Seq.{take-at, drop-at}
 use Rattle.format.specs.Format.{option, stamp, bool, boolFrom, via, enum, below, _∣_, nothing}
 use Rattle.spans.specs.Bytes.{zeros}
+use Rattle.spans.proofs.Laws.{more-zeros}
 use Rattle.tables.specs.Table.{Table, flat, Lens, encTable}
 use Rattle.tables.proofs.Laws as tables
 use Rattle.lent.specs.Lent.{placed}
@@ -19,12 +20,14 @@ use Rattle.model.specs.Maps.{map, is-some, keys}
 use Rattle.model.specs.Sync.{new-pass, start-from}
 use Rattle.model.specs.Formats.{shortText, u64, listFromF}
 use Rattle.model.specs.WellFormed.{rising}
+use Rattle.model.proofs.FitReading.{start-from-ok}
 use Rattle.state.specs.Layout.{field, padded, name-slot, record-slot, staged-slot, flight-slot, learned-slot, alias-slot, edit-slots, region, regions, sizes, layout, pass-of, no-pass}
 use Rattle.state.specs.Fits.{PassFits, Fits}
 use Rattle.state.specs.Setters.{with-pass}
 use Rattle.state.specs.Contract.{Keeps}
 use Rattle.state.proofs.Regions.{regions-sized}
 use Rattle.state.proofs.Parts.{keep}
+use Rattle.state.proofs.Fresh.{no-text}
 
 -- ---- the regions before a pass's, its own, and those behind
 
@@ -87,26 +90,13 @@ pass-put s w o h k =
 
 -- ---- the bytes of no pass, and of a new one
 
-empty : (n : ℕ) → encTable (suc n) [] ≡ zeros (suc n)
-unfolding encTable
-empty n =
-    let e : suc n - 1 - 0 ≡ n = omega arith in
-    ap (λ (k : ℕ). 0 ∷ zeros k) e
-
-no-text : field 34 (option shortText) none ≡ zeros 34
-unfolding option via enum _∣_ nothing padded
-no-text = refl
-
 no-header : field 1 bool false ++ (field 1 bool false ++ (field 34 listFromF ListFrom.Start ++ zeros 10781)) ≡ zeros 10817
 unfolding bool via below padded listFromF enum _∣_ nothing
 no-header = ap (λ (x : List ℕ). 0 ∷ 0 ∷ x) (replicate-append-replicate 34 10781 0)
 
-more : (n m : ℕ) {a b : List ℕ} → a ≡ zeros n → b ≡ zeros m → a ++ b ≡ zeros (n + m)
-more n m e f = ap₂ (λ (x y : List ℕ). x ++ y) e f ∙ replicate-append-replicate n m 0
-
 -- the tables of a pass that has staged, seen and observed nothing
 tables-zero : encTable 9161 [] ++ (encTable 1057 [] ++ (encTable 529 [] ++ (field 34 (option shortText) none ++ []))) ≡ zeros 10781
-tables-zero = more 9161 1620 (empty 9160) (more 1057 563 (empty 1056) (more 529 34 (empty 528) (more 34 0 no-text refl)))
+tables-zero = more-zeros 9161 1620 (tables.empty-zeros 9161 (omega arith)) (more-zeros 1057 563 (tables.empty-zeros 1057 (omega arith)) (more-zeros 529 34 (tables.empty-zeros 529 (omega arith)) (more-zeros 34 0 no-text refl)))
 
 pub no-pass-bytes : flat (of-pass none) ≡ zeros 10817
 unfolding is-some pass-of no-pass map
@@ -121,25 +111,10 @@ pub new-pass-bytes : (c : Option Cursor) → flat (of-pass (some (new-pass c))) 
 unfolding new-pass is-some pass-of map bool via below padded
 new-pass-bytes c = ap₂ (λ (x y : List ℕ). 1 ∷ boolFrom (not (is-some c)) ∷ (x ++ y)) (from-cursor c) tables-zero
 
-pub no-pass-fits : PassFits document01 (pass-of none)
-unfolding document01 rising keys map pass-of no-pass option via enum _∣_ nothing listFromF
-no-pass-fits = record {
-  from = tt;
-  staged = record { small = omega arith; each = tt; rises = tt };
-  seen = record { small = omega arith; each = tt; rises = tt };
-  observed = record { small = omega arith; each = tt; rises = tt };
-  done = tt;
-}
-
-from-ok : (c : Option Cursor) → option shortText .Ok c → listFromF .Ok (start-from c)
-unfolding start-from listFromF option via enum _∣_ nothing
-from-ok none ok = tt
-from-ok (some c) ok = ok
-
 pub new-pass-fits : (c : Option Cursor) → option shortText .Ok c → PassFits document01 (pass-of (some (new-pass c)))
 unfolding document01 rising keys map pass-of new-pass option via enum _∣_ nothing
 new-pass-fits c ok = record {
-  from = from-ok c ok;
+  from = start-from-ok c ok;
   staged = record { small = omega arith; each = tt; rises = tt };
   seen = record { small = omega arith; each = tt; rises = tt };
   observed = record { small = omega arith; each = tt; rises = tt };

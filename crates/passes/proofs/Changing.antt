@@ -8,7 +8,7 @@ use Rattle.model.specs.State.{Pass, SyncState}
 use Rattle.model.specs.Maps.{if_then_else_}
 use Rattle.model.specs.Machine.{Machine, Run, ok, _>>=_, match_none:_some:_, with-state, change-pass, set-pass}
 use Rattle.state.specs.Setters.{with-pass, pass-changed}
-use Rattle.state.specs.Contract.{HasState, Reads, Edits}
+use Rattle.state.specs.Contract.{Reads, Edits}
 use Rattle.machine.specs.declared.Progress.{Progress}
 use Rattle.machine.specs.Contract.{Changes}
 use Rattle.machine.proofs.Runs as runs
@@ -36,9 +36,6 @@ if-false f R e C = record { does = λ o. runs.left f R e (C .does o) }
 
 pub same-run : {f : Machine → Run} (g : Machine → Run) {w w′ : List ℕ} {p q : Progress} → ((m : Machine) → f m ≡ g m) → Changes f w p q w′ → Changes g w p q w′
 same-run g e C = record { does = λ o. runs.is g e (C .does o) }
-
-pub state-after : {f : Machine → Run} {w w′ : List ℕ} {p q : Progress} → Changes f w p q w′ → HasState w → HasState w′
-state-after {w = w} C h = C .does w .state h
 
 -- the open pass changed, as an edit of the state
 pub change-pass-is : (f : Pass → Pass) (m : Machine) → with-state (pass-changed f (m .state)) m ≡ change-pass f m

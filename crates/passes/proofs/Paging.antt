@@ -5,12 +5,13 @@ use mathlib.Core.Path.{_≡_, refl, sym, subst}
 use mathlib.Core.List.{List, [], _∷_}
 use mathlib.Core.Option.{some}
 use mathlib.Core.Bool.{true}
-use Rattle.format.specs.Format.{All, below, list, via, _⊗_}
-use Rattle.model.specs.Seam.{RequestId, Change, Page}
+use Rattle.format.specs.Format.{All, below}
+use Rattle.model.specs.Seam.{RequestId, Change}
 use Rattle.model.specs.Limits.{max-changes}
 use Rattle.model.specs.Formats.{changeF, nextF, pageF}
 use Rattle.model.specs.Machine.{for-each}
 use Rattle.model.specs.Sync.{list-change}
+use Rattle.model.proofs.ValidParts.{page-changes}
 use Rattle.frame.specs.Read.{readAt, Found, Means}
 use Rattle.frame.specs.Meaning.{pageAt}
 use Rattle.frame.specs.declared.Cursor.{Cursor}
@@ -20,6 +21,7 @@ use Rattle.state.specs.Contract.{HasState}
 use Rattle.machine.specs.declared.Progress.{Progress}
 use Rattle.machine.specs.Contract.{Changes}
 use Rattle.passes.proofs.Changing as changing
+use Rattle.observe.proofs.Observing as observing
 
 -- `left` changes are still to come at a place: once they are done, all of the page's are
 pub record Paging (s : List ℕ) (page : ℕ) (id : RequestId) (w₀ : List ℕ) (p₀ : Progress) (w : List ℕ) (p : Progress) (place : Cursor) (left : ℕ) : Type 0 where
@@ -29,16 +31,12 @@ pub record Paging (s : List ℕ) (page : ℕ) (id : RequestId) (w₀ : List ℕ)
   pub all : (q : Progress) (w′ : List ℕ) → Changes (for-each (list-change id) rest) w p q w′ → Changes (for-each (list-change id) (pageAt s page .changes)) w₀ p₀ q w′
   pub state : HasState w
 
-changes-ok : (page : Page) → pageF .Ok page → All (changeF .Ok) (page .changes)
-unfolding pageF via _⊗_ list
-changes-ok page k = k .0 .1
-
 pub paging-start : (s : List ℕ) (page n : ℕ) (id : RequestId) (w : List ℕ) (p : Progress) (tag : Cursor) → HasState w → pageF .Ok (pageAt s page) → Found tag n 0 (below (suc 8)) s (record { at = page; ok = true }) → Paging s page id w p w p tag n
 unfolding max-changes
 paging-start s page n id w p tag K k G = record {
   rest = pageAt s page .changes;
   walk = walk-start s page k tag n G;
-  each = changes-ok (pageAt s page) k;
+  each = page-changes (pageAt s page) k;
   all = λ q w′ C. C;
   state = K;
 }
@@ -66,7 +64,7 @@ module _ {s : List ℕ} {page : ℕ} {id : RequestId} {w₀ : List ℕ} {p₀ : 
         walk = (let d : n ≡ k = omega arith in subst (λ (j : ℕ). Walk s next j xs (pageAt s page .next)) d (walk-step W M .1));
         each = a .1;
         all = λ r w″ D. f r w″ (changing.and-then (subst (λ (y : Change). Changes (list-change id y) w p q w′) (sym (walk-step W M .0)) C) D);
-        state = changing.state-after C (P .state);
+        state = observing.still C (P .state);
       }
 
 pub paging-end : {s : List ℕ} {page : ℕ} {id : RequestId} {w₀ : List ℕ} {p₀ : Progress} {w : List ℕ} {p : Progress} {place : Cursor} {left : ℕ} → Paging s page id w₀ p₀ w p place left → left ≤ 0

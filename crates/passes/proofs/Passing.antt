@@ -35,6 +35,7 @@ use Rattle.state.specs.Values.{Named}
 use Rattle.pass_header.specs.From.{kind-of, text-of, from-in}
 use Rattle.pass_header.specs.declared.FromKind.{FromKind}
 use Rattle.pass_header.specs.declared.FromKind.the-variants as from
+use Rattle.pass_header.proofs.Laws.{from-whole}
 use Rattle.staged.proofs.Bridge.{pass-full-is}
 use Rattle.machine.specs.declared.Progress.{Progress}
 use Rattle.machine.specs.Contract.{Does, Changes, Pushes}
@@ -43,13 +44,9 @@ use Rattle.machine.proofs.Runs as runs
 use Rattle.machine.proofs.Steps as steps
 use Rattle.passes.specs.Reading.{request-from}
 use Rattle.passes.proofs.Changing as changing
+use Rattle.observe.proofs.Observing as observing
 
 -- ---- a request for a page
-
-from-of : (f : ListFrom) → from-in (kind-of f) (text-of f) ≡ f
-from-of ListFrom.Start = refl
-from-of (ListFrom.Since c) = refl
-from-of (ListFrom.Continue c) = refl
 
 module _ {w o o′ : List ℕ} {p q : Pen} (id : ℕ) (k : FromKind) (K : Reads (λ s. kind-of (pass-of (s .pass) .from)) w k) where
   asks : (s : SyncState) (f : ListFrom) → f ≡ pass-of (s .pass) .from → Told (Effect.Request id (Request.List f)) o o′ p q → Told (Effect.Request id (Request.List (pass-of (s .pass) .from))) o o′ p q
@@ -57,16 +54,16 @@ module _ {w o o′ : List ℕ} {p q : Pen} (id : ℕ) (k : FromKind) (K : Reads 
 
   pub ask-start : k ≡ from.Start → Told (Effect.Request id (Request.List ListFrom.Start)) o o′ p q
       → (s : SyncState) → Keeps s w → Told (Effect.Request id (Request.List (pass-of (s .pass) .from))) o o′ p q
-  ask-start e T s h = asks s ListFrom.Start (ap (λ (x : FromKind). from-in x (text-of (pass-of (s .pass) .from))) (sym e ∙ K .is s h) ∙ from-of (pass-of (s .pass) .from)) T
+  ask-start e T s h = asks s ListFrom.Start (ap (λ (x : FromKind). from-in x (text-of (pass-of (s .pass) .from))) (sym e ∙ K .is s h) ∙ from-whole (pass-of (s .pass) .from)) T
 
   module _ (t : Text) (X : Reads (λ s. text-of (pass-of (s .pass) .from)) w t) where
     pub ask-since : k ≡ from.Since → Told (Effect.Request id (Request.List (ListFrom.Since t))) o o′ p q
         → (s : SyncState) → Keeps s w → Told (Effect.Request id (Request.List (pass-of (s .pass) .from))) o o′ p q
-    ask-since e T s h = asks s (ListFrom.Since t) (ap₂ from-in (sym e ∙ K .is s h) (X .is s h) ∙ from-of (pass-of (s .pass) .from)) T
+    ask-since e T s h = asks s (ListFrom.Since t) (ap₂ from-in (sym e ∙ K .is s h) (X .is s h) ∙ from-whole (pass-of (s .pass) .from)) T
 
     pub ask-continue : k ≡ from.Continue → Told (Effect.Request id (Request.List (ListFrom.Continue t))) o o′ p q
         → (s : SyncState) → Keeps s w → Told (Effect.Request id (Request.List (pass-of (s .pass) .from))) o o′ p q
-    ask-continue e T s h = asks s (ListFrom.Continue t) (ap₂ from-in (sym e ∙ K .is s h) (X .is s h) ∙ from-of (pass-of (s .pass) .from)) T
+    ask-continue e T s h = asks s (ListFrom.Continue t) (ap₂ from-in (sym e ∙ K .is s h) (X .is s h) ∙ from-whole (pass-of (s .pass) .from)) T
 
 pub short-enough : (t : Text) → shortText .Ok t → length t ≤ 255
 unfolding textFormat max-text
@@ -96,7 +93,7 @@ pub asked-from : {w o w₁ o₁ : List ℕ} {p q r : Progress} {x y : Pen} (id :
     → ((s : SyncState) → Keeps s w₁ → Told (Effect.Request id (Request.List (pass-of (s .pass) .from))) o o₁ x y) → r ≡ sent-by q y → Does request-from w o p r w₁ o₁
 unfolding request-from
 asked-from {w} {o} {w₁} {o₁} {p} {q} {r} {x} {y} id K R C a T b =
-    let K₁ : HasState w₁ = changing.state-after C K in
+    let K₁ : HasState w₁ = observing.still C K in
     let P : Does (push-from id) w₁ o q r w₁ o₁ = record {
       run = λ z m h. steps.told a (T (m .state) (h .keeps)) b .does w₁ .run z m h;
       stays = steps.told a (T (K₁ .state) (K₁ .keeps)) b .does w₁ .stays;

@@ -12,6 +12,7 @@ use Rattle.machine.specs.declared.Progress.{Progress}
 use Rattle.machine.specs.Contract.{Changes}
 use Rattle.machine.proofs.Runs as runs
 use Rattle.observe.proofs.Each.{bind-assoc, bind-same}
+use Rattle.observe.proofs.Observing as observing
 use Rattle.passes.proofs.Changing as changing
 
 -- what a run gives, marked: the same where nothing is changed by it
@@ -55,7 +56,7 @@ module _ {A : Type 0} (l : SyncState → List A) (d : A) (body : A → Machine �
     all = λ r w″ D. W .all r w″ (record {
       does = λ o. runs.is-held (rest i) (λ m H. let e = R .is (m .state) (H .keeps) in turn-is i m (omega arith) (leaves m (omega arith))) (changing.and-then C D .does o);
     });
-    state = changing.state-after C (W .state);
+    state = observing.still C (W .state);
   }
 
   pub walk-end : {w₀ w : List ℕ} {p₀ p : Progress} {i count : ℕ} → Walking w₀ p₀ w p i → Reads (λ s. length (l s)) w count → count ≤ i → Changes (λ m. for-each body (l (m .state)) m) w₀ p₀ p w

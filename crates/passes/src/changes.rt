@@ -108,7 +108,7 @@ fn list_upsert(
     requires { ⌜ (resourceId .Ok (resourceAt (now frame) resource)) × (shortText .Ok (textAt (now frame) revision)) × (option eventF .Ok (optionEventAt (now frame) event)) ⌝ }
     ensures { λ r. ⌜ Changes (list-change id (seam.Change.Upsert (resourceAt (now (frame .entry)) resource) (textAt (now (frame .entry)) revision) (optionEventAt (now (frame .entry)) event))) (now (work .entry)) p r (now (work .exit)) ⌝ }
 {
-    let name = observe::name_from(frame::resource_at(frame, resource));
+    let name = machine::name_from(frame::resource_at(frame, resource));
     let doubted = machine::doubtful(work, id, name);
     let learned = machine::learn(work, p, name);
     let seen = observe::see(work, learned, name);
@@ -123,7 +123,7 @@ fn list_remove(work: &mut [u8], p: Progress, frame: &[u8], id: u64, resource: us
     requires { ⌜ resourceId .Ok (resourceAt (now frame) resource) ⌝ }
     ensures { λ r. ⌜ Changes (list-change id (seam.Change.Remove (resourceAt (now (frame .entry)) resource))) (now (work .entry)) p r (now (work .exit)) ⌝ }
 {
-    let name = observe::name_from(frame::resource_at(frame, resource));
+    let name = machine::name_from(frame::resource_at(frame, resource));
     let doubted = machine::doubtful(work, id, name);
     let learned = machine::learn(work, p, name);
     if doubted {

@@ -9,7 +9,7 @@ use mathlib.Core.Bool.{Bool, true, false, not}
 use lib.ListN.{length, take, drop, getD, length-append, length-drop}
 use lib.Seq.{drop-drop, drop-at, take-at, getD-drop}
 use borrow.Author.Tests.{le-leb, lt-leb}
-use Rattle.format.specs.Format.{Format, Lawful, option, stamp, number, enum, _∣_, via, nothing, _⊗_}
+use Rattle.format.specs.Format.{Format, Lawful, option, stamp, number, enum, _∣_, via, _⊗_}
 use Rattle.format.proofs.FormatLaws.{option-law, text-law, number-law}
 use Rattle.model.specs.Event.{NormalizedEvent, ProviderEvent}
 use Rattle.model.specs.Edits.{Operation, Edit}
@@ -19,6 +19,7 @@ use Rattle.model.specs.Maps.{if_then_else_, same-text}
 use Rattle.model.specs.State.{Pending, Queue, SyncState}
 use Rattle.model.specs.Sync.{Coalesced, with-fields, is-attendee, fold-operation, coalesce, coalesced-with, foldable}
 use Rattle.model.proofs.FormatsLaws.{idsF-law, fieldsF-law}
+use Rattle.model.proofs.ValidParts.{ok-update, ok-create, ok-delete}
 use Rattle.frame.specs.Read.{skips, Found}
 use Rattle.frame.specs.Meaning.{fieldsAt, meantOperation}
 use Rattle.frame.specs.declared.Cursor.{Cursor}
@@ -116,6 +117,9 @@ fields-in e b at l S =
     within-of : (n at x y : ℕ) → at ≤ n → n - at ≡ x + y → at + x ≤ n
     within-of n at x y l m = omega arith
 
+front-apart : (i o n y : List ℕ) → (i ++ (o ++ n)) ++ y ≡ i ++ (o ++ (n ++ y))
+front-apart i o n y = simp append-assoc
+
 pub place-of-fields : (b : List ℕ) (at : ℕ) {c₁ c₂ c₃ : Cursor} {v : ℕ} → at ≤ length b → c₁ ≡ skips idsF b (record { at = at; ok = true }) → c₂ ≡ skips (option shortText) b c₁ → Found c₃ v 0 (number 4) b c₂
     → (e : ProviderEvent) → StandsAt eventF e b at → c₃ .at ≡ at + length (event-front e)
 place-of-fields b at {c₁} {c₂} {c₃} l p q R e S =
@@ -124,7 +128,7 @@ place-of-fields b at {c₁} {c₂} {c₃} l p q R e S =
     let o : List ℕ = option shortText .enc (e .revision) in
     let n : List ℕ = u32 .enc (e .mapper-version) in
     let y : List ℕ = fieldsF .enc (e .fields) ++ (tag .enc (e .passthrough) ++ S .rest) in
-    let g : drop at b ≡ i ++ (o ++ (n ++ y)) = S .is ∙ event-split e (S .rest) ∙ regroup i o n y in
+    let g : drop at b ≡ i ++ (o ++ (n ++ y)) = S .is ∙ event-split e (S .rest) ∙ front-apart i o n y in
     let A : Past idsF (e .ids) b at (o ++ (n ++ y)) = past idsF-law (e .ids) b at (o ++ (n ++ y)) l (K .ids) g in
     let B : Past (option shortText) (e .revision) b (at + length i) (n ++ y) = past (option-law (text-law _)) (e .revision) b (at + length i) (n ++ y) (A .within) (K .revision) (A .behind) in
     let C : Past u32 (e .mapper-version) b (at + length i + length o) y = past (number-law 4) (e .mapper-version) b (at + length i + length o) y (B .within) (K .version) (B .behind) in
@@ -133,9 +137,6 @@ place-of-fields b at {c₁} {c₂} {c₃} l p q R e S =
     let f : c₃ ≡ record { at = at + length i + length o + length n; ok = true } = R .place ∙ ap (skips (number 4) b) d ∙ C .place in
     ap (λ (c : Cursor). c .at) f ∙ sums at i o n
   where
-    regroup : (i o n y : List ℕ) → (i ++ (o ++ n)) ++ y ≡ i ++ (o ++ (n ++ y))
-    regroup i o n y = simp append-assoc
-
     sums : (at : ℕ) (i o n : List ℕ) → at + length i + length o + length n ≡ at + length (i ++ (o ++ n))
     sums at i o n = let a = length-append i (o ++ n) in let b = length-append o n in omega arith
 
@@ -155,18 +156,6 @@ pair-parts x y k = k
 update-pair : (x y : NormalizedEvent) → operationF .Ok (Operation.Update x y) → (fieldsF ⊗ fieldsF) .Ok (x, y)
 unfolding operationF via enum _∣_ _⊗_
 update-pair x y k = k
-
-update-ok : (x y : NormalizedEvent) → fieldsF .Ok x → fieldsF .Ok y → operationF .Ok (Operation.Update x y)
-unfolding operationF via enum _∣_ _⊗_
-update-ok x y j k = (j, k)
-
-create-ok : (e : ProviderEvent) → eventF .Ok e → operationF .Ok (Operation.Create e)
-unfolding operationF via enum _∣_
-create-ok e k = k
-
-delete-ok : operationF .Ok Operation.Delete
-unfolding operationF via enum _∣_ nothing
-delete-ok = tt
 
 stands-pair : (x y : NormalizedEvent) (b : List ℕ) (at : ℕ) → StandsAt operationF (Operation.Update x y) b at → StandsAt (fieldsF ⊗ fieldsF) (x, y) b (at + 1)
 stands-pair x y b at S = record {
@@ -211,14 +200,14 @@ module _ (b frame : List ℕ) (at from to : ℕ) (l : at ≤ length b) (kf : fie
   unfolding Folds fold-update if_then_else_
   updates-fold {c} {c₃ = c₃} {y} {p} {p₃ = p₃} r e Q a W X Y base ours S =
       let U = first-of base ours S in
-      let o : operationF .Ok (Operation.Update base G) = update-ok base G (U .ok) kt in
+      let o : operationF .Ok (Operation.Update base G) = ok-update base G (U .ok) kt in
       let z : operationF .enc (Operation.Update base G) ≡ 1 ∷ (x₁ ++ y) = update-bytes base G ∙ ap₂ (λ (u v : List ℕ). 1 ∷ (u ++ v)) (sym (P₁ .is base U)) (sym (Q .is G (fields-there frame to kt))) in
       record {
         is = record {
           operation = Operation.Update base G;
           is = ap (λ (c : Bool). if c then some (Coalesced.Into (Operation.Update base G)) else none) (sym (tested base ours S) ∙ e);
           ok = o;
-          bytes = filled 1469 a (subst (λ (u : List ℕ). Wrote c c₃ p p₃ u) (sym z) (wrote-then W (wrote-then X Y))) (widths.operation-within .most (Operation.Update base G) o) r;
+          bytes = filled 1469 a (subst (λ (u : List ℕ). Wrote c c₃ p p₃ u) (sym z) (wrote-then W (wrote-then X Y))) (widths.operation-within .bytes (Operation.Update base G) o) r;
         };
       }
 
@@ -230,10 +219,7 @@ with-fields-ok e g k j = let K = event-parts e k in event-whole (with-fields g e
 
 with-fields-bytes : (e : ProviderEvent) (g : NormalizedEvent) → eventF .enc (with-fields g e) ≡ event-front e ++ (fieldsF .enc g ++ tag .enc (e .passthrough))
 unfolding with-fields
-with-fields-bytes e g = event-bytes (with-fields g e) ∙ regroup (idsF .enc (e .ids)) (option shortText .enc (e .revision)) (u32 .enc (e .mapper-version)) (fieldsF .enc g ++ tag .enc (e .passthrough))
-  where
-    regroup : (i o n y : List ℕ) → i ++ (o ++ (n ++ y)) ≡ (i ++ (o ++ n)) ++ y
-    regroup i o n y = simp append-assoc
+with-fields-bytes e g = event-bytes (with-fields g e) ∙ sym (front-apart (idsF .enc (e .ids)) (option shortText .enc (e .revision)) (u32 .enc (e .mapper-version)) (fieldsF .enc g ++ tag .enc (e .passthrough)))
 
 module _ (b frame : List ℕ) (at from to m : ℕ) (l : at ≤ length b) (kf : fieldsF .Ok (fieldsAt frame from)) (kt : fieldsF .Ok (fieldsAt frame to))
     {x₁ x₂ : List ℕ} {t : Bool} (M : (e : ProviderEvent) → StandsAt eventF e b at → m ≡ at + length (event-front e)) (P₁ : PartOf fieldsF b m x₁) (P₂ : PartOf fieldsF frame from x₂) (T : t ≡ same-text x₂ x₁) where
@@ -267,7 +253,7 @@ module _ (b frame : List ℕ) (at from to m : ℕ) (l : at ≤ length b) (kf : f
       let A : Past fieldsF (e .fields) b m (tag .enc (e .passthrough) ++ S .rest) = past fieldsF-law (e .fields) b m (tag .enc (e .passthrough) ++ S .rest) w (U .ok) (U .is) in
       let D : StandsAt tag (e .passthrough) b n = record { ok = event-parts e (S .ok) .passthrough; rest = S .rest; is = ap (λ (j : ℕ). drop j b) (N .is w (e .fields) U) ∙ A .behind } in
       let f : x ≡ event-front e = d ∙ front-is (event-front e) (fieldsF .enc (e .fields) ++ (tag .enc (e .passthrough) ++ S .rest)) i w (I .front) in
-      let o : operationF .Ok (Operation.Create (with-fields K e)) = create-ok (with-fields K e) (with-fields-ok e K (S .ok) kt) in
+      let o : operationF .Ok (Operation.Create (with-fields K e)) = ok-create (with-fields K e) (with-fields-ok e K (S .ok) kt) in
       let g : operationF .enc (Operation.Create (with-fields K e)) ≡ 0 ∷ (x ++ (y ++ z)) =
       create-bytes (with-fields K e) ∙ ap (λ (u : List ℕ). 0 ∷ u) (with-fields-bytes e K
       ∙ ap₂ (λ (u v : List ℕ). u ++ v) (sym f) (ap₂ (λ (u v : List ℕ). u ++ v) (sym (Q .is K (fields-there frame to kt))) (sym (Z .is (e .passthrough) D)))) in
@@ -276,7 +262,7 @@ module _ (b frame : List ℕ) (at from to m : ℕ) (l : at ≤ length b) (kf : f
           operation = Operation.Create (with-fields K e);
           is = ap (λ (c : Bool). if c then some (Coalesced.Into (Operation.Create (with-fields K e))) else none) (sym (compared e S) ∙ q);
           ok = o;
-          bytes = filled 1469 a (subst (λ (u : List ℕ). Wrote c c₄ p p₄ u) (sym g) (wrote-then W (wrote-then X (wrote-then Y L)))) (widths.operation-within .most (Operation.Create (with-fields K e)) o) r;
+          bytes = filled 1469 a (subst (λ (u : List ℕ). Wrote c c₄ p p₄ u) (sym g) (wrote-then W (wrote-then X (wrote-then Y L)))) (widths.operation-within .bytes (Operation.Create (with-fields K e)) o) r;
         };
       }
     where
@@ -331,8 +317,8 @@ module _ (b : List ℕ) (at : ℕ) where
     is = record {
       operation = Operation.Delete;
       is = rw e;
-      ok = delete-ok;
-      bytes = filled 1469 a (subst (λ (u : List ℕ). Wrote c c₁ p p₁ u) (sym delete-bytes) W) (widths.operation-within .most Operation.Delete delete-ok) r;
+      ok = ok-delete;
+      bytes = filled 1469 a (subst (λ (u : List ℕ). Wrote c c₁ p p₁ u) (sym delete-bytes) W) (widths.operation-within .bytes Operation.Delete ok-delete) r;
     };
   }
   delete-on-update r e z a W Operation.Delete S = absurd (let q : _≡_ {A = ℕ} 1 2 = sym z ∙ first-byte Operation.Delete 2 [] delete-bytes S in omega arith)

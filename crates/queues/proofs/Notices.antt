@@ -21,6 +21,8 @@ use Rattle.model.specs.State.{Pending, SyncState, Purpose}
 use Rattle.model.specs.Machine.{Machine, Run, refused, ok, _>>=_, for-each, match_none:_some:_, tell, push, request, set-in-flight, set-next-request, queue-of}
 use Rattle.model.specs.Sync.{ids-of, ending, notify}
 use Rattle.model.proofs.Holds as model
+use Rattle.model.proofs.ValidParts.{create-ok}
+use Rattle.model.proofs.InFlight.{same-state}
 use Rattle.pens.specs.declared.Pen.{Pen}
 use Rattle.effects.specs.Told.{Told, ToldOf, ToldOfBoth}
 use Rattle.state.specs.Layout.{padded, field}
@@ -31,6 +33,7 @@ use Rattle.waiting.specs.Queues.{queue, queue-in, nth}
 use Rattle.waiting.proofs.Bridge.{queue-is}
 use Rattle.waiting.specs.Entries.{SomeEntryAt, EntryIs, FindsEntry}
 use Rattle.waiting.specs.Reading.{nth-id, ReadsId, ids-number}
+use Rattle.waiting.proofs.Reading.{nth-id-some}
 use Rattle.machine.specs.declared.Progress.{Progress}
 use Rattle.machine.specs.Contract.{Holds, Ran, Does, Changes, Pushes}
 use Rattle.machine.specs.Steps.{pen-of, sent-by, reserve}
@@ -52,10 +55,6 @@ stands-field f v w at width k e = record {
 pub create-bytes : (e : ProviderEvent) → operationF .enc (Operation.Create e) ≡ 0 ∷ eventF .enc e
 unfolding operationF via enum _∣_
 create-bytes e = refl
-
-pub create-ok : (e : ProviderEvent) → operationF .Ok (Operation.Create e) → eventF .Ok e
-unfolding operationF via enum _∣_
-create-ok e k = k
 
 -- the event of an operation that stands at a place
 pub stands-event : (e : ProviderEvent) (w : List ℕ) (at : ℕ) → StandsAt operationF (Operation.Create e) w at → StandsAt eventF e w (at + 1)
@@ -179,31 +178,16 @@ id-ends j k r {w} {o} {o′} {p} {q} f e S = subst (λ x. Sends (id-effect j k r
 
 -- ---- notify
 
-tells-state : (f : EditId → Notice) (xs : List EditId) (m : Machine) → model.Holds (λ m′. m′ .state ≡ m .state) (for-each (λ x. tell (f x)) xs m)
-unfolding tell push
-tells-state f xs m = model.loop {P = λ m′. m′ .state ≡ m .state} xs (λ x m h. model.branch _ (model.holds h) model.stopped) m refl
-
-bind-ok : (r : Run) → (r >>= ok) ≡ r
-unfolding _>>=_
-bind-ok (refused n) = refl
-bind-ok (ok m) = refl
-
 -- one id more
 tells-more : (body : Text → Machine → Run) (k : ℕ) (xs : List Text) (x : Text) → nth-id k xs ≡ some x → (m : Machine) → for-each body (take (suc k) xs) m ≡ (for-each body (take k xs) m >>= body x)
 unfolding for-each _>>=_ nth-id
 tells-more body k [] x e m = absurd (Option·none-ne-some x e)
-tells-more body zero (y ∷ xs) x e m = bind-ok (body y m) ∙ ap (λ (z : Text). body z m) (Option·some-injective y x e)
+tells-more body zero (y ∷ xs) x e m = runs.bind-ok (body y m) ∙ ap (λ (z : Text). body z m) (Option·some-injective y x e)
 tells-more body (suc k) (y ∷ xs) x e m = go (body y m) (λ m′. tells-more body k xs x e m′)
   where
     go : (r : Run) → ((m′ : Machine) → for-each body (take (suc k) xs) m′ ≡ (for-each body (take k xs) m′ >>= body x)) → (r >>= for-each body (take (suc k) xs)) ≡ ((r >>= for-each body (take k xs)) >>= body x)
     go (refused n) ih = refl
     go (ok m′) ih = ih m′
-
-nth-id-some : (k : ℕ) (ids : List Text) → k < length ids → (id : Text) × (nth-id k ids ≡ some id)
-unfolding nth-id
-nth-id-some k [] h = absurd (omega arith)
-nth-id-some zero (x ∷ ids) h = (x, refl)
-nth-id-some (suc k) (x ∷ ids) h = nth-id-some k ids (omega arith)
 
 -- a run that leaves the state, and then an effect that the state gives
 ran-sends : (effect : SyncState → Option Effect) {w o o′ : List ℕ} {q q′ : Progress} (s : SyncState) (e : Effect) → effect s ≡ some e → Sends effect w o q q′ o′ → (r : Run) → model.Holds (λ m. effect (m .state) ≡ some e) r → Ran r q w o → Ran (r >>= push e) q′ w o′
@@ -250,7 +234,7 @@ module _ (j : ℕ) (r : ResourceId) (rejection : Option Rejection) where
         notify-is (k + 1) m (E .0) (E .1) ∙ ap (λ (i : ℕ). for-each (λ id. tell (ending (E .0) rejection id)) (take i (ids-of (E .0))) m) (add-one k) ∙ tells-more (λ id. tell (ending (E .0) rejection id)) k (ids-of (E .0)) (I .0) (I .1) m in
         subst (λ (x : Run). Ran x s w o₂) (sym a)
         (ran-sends (id-effect j k r rejection) (m .state) e gives S (for-each (λ id. tell (ending (E .0) rejection id)) (take k (ids-of (E .0))) m)
-        (model.weaken (tells-state (λ id. ending (E .0) rejection id) (take k (ids-of (E .0))) m) (λ m′ y. ap (id-effect j k r rejection) y ∙ gives))
+        (model.weaken (same-state (λ id. ending (E .0) rejection id) (take k (ids-of (E .0))) m) (λ m′ y. ap (id-effect j k r rejection) y ∙ gives))
         (subst (λ (x : Run). Ran x q w o₁) (notify-is k m (E .0) (E .1)) (D .run z m h)));
     stays = λ d. let k = D .stays d in S .stays (λ z. d (sym k ∙ z)) ∙ k;
     state = λ h. h;

@@ -21,6 +21,8 @@ use Rattle.model.specs.Machine.{Machine, Run, refused, ok, _>>=_, match_none:_s
 use Rattle.model.specs.Sync.{Coalesced, is-create, with-resource, new-pending, notify, start-edit, due, expired, follow-alias, absorb, fold-in, cancel, append, foldable, coalesced-with, coalesce, place, enqueue-live, enqueue, back, without-back}
 use Rattle.model.proofs.Holds as model
 use Rattle.model.proofs.InFlight.{notify-state}
+use Rattle.model.proofs.Mutual.{bind-same}
+use Rattle.model.proofs.Flights.{foldable-back}
 use Rattle.frame.specs.Meaning.{meantOperation}
 use Rattle.frame.specs.declared.Operation as places
 use Rattle.frame.specs.declared.Operation.the-variants as place-of
@@ -28,7 +30,7 @@ use Rattle.state.specs.Values.{name-of, name-in}
 use Rattle.state.specs.Contract.{Keeps, HasState, Reads, Edits, Tries}
 use Rattle.waiting.specs.Queues.{queue, put-queue, all-entries, nth, without, change-last, may-absorb}
 use Rattle.waiting.specs.Entries.{EditBytes, FoldBytes}
-use Rattle.waiting.proofs.Bridge.{queue-is, entries-is}
+use Rattle.waiting.proofs.Bridge.{queue-is, entries-is, set-queue-is}
 use Rattle.waiting.proofs.Lists.{nth-back}
 use Rattle.machine.specs.declared.Progress.{Progress}
 use Rattle.machine.specs.Contract.{Ran, Does, Changes, Pushes}
@@ -42,7 +44,7 @@ use Rattle.queues.specs.Heads.{notify-at}
 use Rattle.queues.specs.Folding.{FoldedInto, Folds, FoldedAs}
 use Rattle.queues.specs.Enqueue.{append-entry, append-to, fold-last, cancel-last, target-of}
 use Rattle.queues.proofs.Parts.{part-in, take-short}
-use Rattle.queues.proofs.Starts.{set-queue-is, notify-apart, bind-same, bind-assoc}
+use Rattle.queues.proofs.Starts.{notify-apart, bind-assoc}
 use Rattle.queues.proofs.Folding.{edit-parts}
 
 pub resource-is : (r : ResourceId) (e : Edit) → with-resource r e .resource ≡ r
@@ -211,14 +213,6 @@ place-none : (q : Queue) (x : Option Pending) (e : Edit) (m : Machine) → place
 unfolding place
 place-none q none e m = refl
 place-none q (some p) e m = refl
-
-foldable-back : (q : Queue) (p : Pending) → foldable q ≡ some p → back q ≡ some p
-unfolding foldable if_then_else_
-foldable-back q p e = go (leb 2 (length q)) e
-  where
-    go : (b : Bool) → (if b then back q else none) ≡ some p → back q ≡ some p
-    go true e = e
-    go false e = absurd (Option·none-ne-some p e)
 
 some-foldable : (x : Option Pending) (e : Edit) (c : Coalesced) → coalesced-with x e ≡ some c → (p : Pending) × (x ≡ some p)
 unfolding coalesced-with

@@ -18,23 +18,23 @@ use Rattle.model.specs.Limits.{max-effects, document01}
 use Rattle.model.specs.Formats.{enc-effects}
 use Rattle.model.specs.State.{Pending, Queue, SyncState, Purpose}
 use Rattle.model.specs.Maps.{if_then_else_, is-some-and, by-name, keys}
-use Rattle.model.specs.Machine.{Machine, Run, refused, ok, _>>=_, for-each, match_none:_some:_, tell, push, request, with-state, set-edits, queue-of, set-queue}
+use Rattle.model.specs.Machine.{Machine, Run, refused, ok, _>>=_, for-each, match_none:_some:_, tell, push, request, with-state, queue-of, set-queue}
 use Rattle.model.specs.Sync.{assigns-ids, is-attendee, creates-under-key, head, ids-of, ending, notify, read-for-edit, start-head, start-edit, finish-queue, finish}
 use Rattle.model.specs.WellFormed.{rising}
 use Rattle.model.proofs.Holds as model
 use Rattle.model.proofs.InFlight.{notify-state, found-set}
-use Rattle.model.proofs.Mutual.{finish-is, start-edit-is}
+use Rattle.model.proofs.Mutual.{finish-is, start-edit-is, bind-same}
 use Rattle.state.specs.Values.{name-of}
 use Rattle.state.specs.Contract.{HasState, Reads, Edits}
 use Rattle.state.proofs.Regions.{layout-same}
-use Rattle.waiting.specs.Queues.{queue, queue-in, put-in, put-queue, nth, without}
+use Rattle.waiting.specs.Queues.{queue, queue-in, put-queue, nth, without}
 use Rattle.waiting.specs.Reading.{case-of, operation-case-of, by-attendee}
 use Rattle.waiting.specs.Slots.{tallied}
-use Rattle.waiting.proofs.Bridge.{queue-is, put-is}
+use Rattle.waiting.proofs.Bridge.{queue-is, put-is, set-queue-is}
 use Rattle.waiting.proofs.Splices as splices
 use Rattle.waiting.proofs.Laws as waiting
 use Rattle.machine.specs.declared.Progress.{Progress}
-use Rattle.machine.specs.Contract.{Holds, Does}
+use Rattle.machine.specs.Contract.{Does}
 use Rattle.machine.proofs.Runs as runs
 use Rattle.queues.specs.declared.head.Beginning.{Beginning}
 use Rattle.queues.specs.declared.head.Beginning.the-variants as Begin
@@ -223,20 +223,10 @@ pub notify-apart : (p : Pending) (rejection : Option Rejection) (s : SyncState) 
 unfolding notify
 notify-apart p rejection s m = tells-apart (λ id. ending p rejection id) (ids-of p) s m
 
-pub set-queue-is : (r : ResourceId) (q : Queue) (m : Machine) → set-queue r q m ≡ with-state (put-queue r q (m .state)) m
-unfolding set-queue set-edits put-in
-set-queue-is r [] m = refl
-set-queue-is r (p ∷ q) m = refl
-
 pub bind-assoc : (r : Run) (s : Machine → SyncState) (g : Machine → Run) → ((r >>= λ m. ok (with-state (s m) m)) >>= g) ≡ (r >>= λ m. g (with-state (s m) m))
 unfolding _>>=_
 bind-assoc (refused n) s g = refl
 bind-assoc (ok m) s g = refl
-
-pub bind-same : {f g : Machine → Run} {r : Run} → model.Holds (λ m. f m ≡ g m) r → (r >>= f) ≡ (r >>= g)
-unfolding _>>=_
-bind-same model.stopped = refl
-bind-same (model.holds h) = h
 
 -- the head's ids are told, and then it goes
 abbrev headless : ResourceId → SyncState → SyncState

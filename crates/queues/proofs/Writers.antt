@@ -4,7 +4,7 @@ use native.Mathlib.Omega.{arith}
 use mathlib.Core.Path.{_≡_, refl, sym, ap, ap₂, _∙_, subst}
 use mathlib.Core.List.{List, [], _∷_, _++_}
 use mathlib.Core.Option.{Option, none, some, Option·some-injective, Option·none-ne-some}
-use mathlib.Core.Bool.{Bool, true, false, not, _&&_, false≢true}
+use mathlib.Core.Bool.{Bool, true, false, not, false≢true}
 use lib.Dec.{T, isEq, ltb}
 use lib.IntN.{ℤ, pos, negsuc, _-ℤ_, natAbs}
 use lib.Signed.{leZ, ltZ, nonNeg, mag}
@@ -16,12 +16,11 @@ use mir.Val.{ofZ, toZ, Fits, SFits}
 use mir.Facts.{toZ-ofZ}
 use Rattle.format.specs.Format.{Format, Lawful, Got, option, stamp, isTime, text, enum, _∣_, via, nothing, bigEndian, _⊗_}
 use Rattle.format.proofs.FormatLaws.{time-fits}
-use Rattle.spans.specs.Bytes.{zeros}
 use Rattle.model.specs.Event.{Text, ProviderEvent, NormalizedEvent}
 use Rattle.model.specs.Parts as parts
 use Rattle.model.specs.Edits as edits
-use Rattle.model.specs.Formats.{resourceId, shortText, roleF, operationF, fieldsF, eventF}
-use Rattle.model.specs.Limits.{max-id, max-text}
+use Rattle.model.specs.Formats.{shortText, roleF, operationF, fieldsF, eventF}
+use Rattle.model.specs.Limits.{max-text}
 use Rattle.model.specs.Maps.{is-some-and, by-name, same-text}
 use Rattle.model.specs.Sync.{is-attendee}
 use Rattle.spans.specs.Compare.{order}
@@ -29,6 +28,7 @@ use Rattle.spans.specs.declared.Order.{Order}
 use Rattle.spans.specs.declared.Order.the-variants.{Less, Equal, Greater}
 use Rattle.state.proofs.Orders.{flipped, name-order}
 use Rattle.model.proofs.FormatsLaws.{fieldsF-law, eventF-law}
+use Rattle.model.proofs.ValidParts.{create-ok, update-ok}
 use Rattle.frame.specs.Read.{stepped, skips, valueOf, valueAt}
 use Rattle.frame.proofs.Stood.{fields-stand, event-stands}
 use Rattle.frame.specs.Meaning.{standsAt, textAt, fieldsAt, eventAt, meantRole, meantExpiry, meantOperation, noFields, noEvent}
@@ -42,15 +42,12 @@ use Rattle.pens.specs.declared.Pen.{Pen}
 use Rattle.pens.specs.Writing.{Wrote, Stands}
 use Rattle.pens.proofs.Laws.{wrote-then}
 use Rattle.effects.specs.Sent.{pen}
-use Rattle.state.specs.Layout.{padded}
-use Rattle.state.specs.Values.{number-in, bits-in, name-of, Named}
+use Rattle.state.specs.Values.{number-in, bits-in}
 use Rattle.state.specs.declared.Numbered.{Numbered}
 use Rattle.state.specs.declared.Numbered.the-variants as numbered
 use Rattle.state.specs.Contract.{Reads}
 use Rattle.state.proofs.Widths as widths
-use Rattle.state.proofs.Ops.{slot-named}
-use Rattle.waiting.proofs.Writes.{drop-zeros}
-use Rattle.queues.proofs.Notices.{create-bytes, create-ok}
+use Rattle.queues.proofs.Notices.{create-bytes}
 use Rattle.queues.specs.Parts.{StandsAt, PartOf, Filled}
 
 -- ---- bits of a time
@@ -125,10 +122,6 @@ pub due-at : (now at x y : ℤ) {e : Expiry} {b : Bool} → e ≡ At at → b �
 unfolding is-some-and
 due-at now at x y q h e f = h ∙ ap₂ leZ e f ∙ rw q
 
-both-inv : (a b : Bool) → (a && b) ≡ true → (a ≡ true) × (b ≡ true)
-both-inv true b e = (refl, e)
-both-inv false b e = absurd (false≢true e)
-
 stamp-ok : (z : ℤ) → option stamp .Ok (some z) → isTime z ≡ true
 unfolding option via enum _∣_ stamp
 stamp-ok z k = k
@@ -189,7 +182,7 @@ short-id t v e k = subst (λ (x : List ℕ). length x ≤ 255) (sym e) (let h = 
 
 pub id-filled : {b b′ t : List ℕ} {p q : Pen} (v : Text) → 33 ≤ length b → shortText .Ok v → t ≡ v → p ≡ pen 0 → Wrote b b′ p q (length t ∷ t) → Filled (shortText .enc v) b′ (q .at)
 unfolding text
-id-filled {b} {b′} {t} {p} {q} v l k e a W = filled 33 a (subst (λ (x : List ℕ). Wrote b b′ p q (length x ∷ x)) e W) (widths.text-33 .most v k) l
+id-filled {b} {b′} {t} {p} {q} v l k e a W = filled 33 a (subst (λ (x : List ℕ). Wrote b b′ p q (length x ∷ x)) e W) (widths.text-33 .bytes v k) l
 
 owner-bytes : roleF .enc parts.Role.Owner ≡ 0 ∷ []
 unfolding roleF via enum _∣_ nothing
@@ -206,13 +199,13 @@ attendee-ok a k = k
 pub role-owner : {b b′ : List ℕ} {p q : Pen} (s : List ℕ) {role : Role} → 34 ≤ length b → roleF .Ok (meantRole s role) → role ≡ Owner → p ≡ pen 0 → Wrote b b′ p q (0 ∷ []) → Filled (roleF .enc (meantRole s role)) b′ (q .at)
 role-owner {b} {b′} {p} {q} s {role} l k e a W =
     let x : roleF .enc (meantRole s role) ≡ 0 ∷ [] = ap (λ (y : Role). roleF .enc (meantRole s y)) e ∙ owner-bytes in
-    filled 34 a (subst (λ (y : List ℕ). Wrote b b′ p q y) (sym x) W) (widths.role-within .most (meantRole s role) k) l
+    filled 34 a (subst (λ (y : List ℕ). Wrote b b′ p q y) (sym x) W) (widths.role-within .bytes (meantRole s role) k) l
 
 pub role-attendee : {b b₁ b′ t : List ℕ} {p p₁ q : Pen} (s : List ℕ) {role : Role} (address : ℕ) → 34 ≤ length b → roleF .Ok (meantRole s role) → role ≡ Attendee address → t ≡ textAt s address → p ≡ pen 0 → Wrote b b₁ p p₁ (1 ∷ []) → Wrote b₁ b′ p₁ q (length t ∷ t)
     → Filled (roleF .enc (meantRole s role)) b′ (q .at)
 role-attendee {b} {b₁} {b′} {t} {p} {p₁} {q} s {role} address l k e d a W Y =
     let x : roleF .enc (meantRole s role) ≡ 1 ∷ (length t ∷ t) = ap (λ (y : Role). roleF .enc (meantRole s y)) e ∙ attendee-bytes (textAt s address) ∙ ap (λ (y : List ℕ). 1 ∷ (length y ∷ y)) (sym d) in
-    filled 34 a (subst (λ (y : List ℕ). Wrote b b′ p q y) (sym x) (wrote-then W Y)) (widths.role-within .most (meantRole s role) k) l
+    filled 34 a (subst (λ (y : List ℕ). Wrote b b′ p q y) (sym x) (wrote-then W Y)) (widths.role-within .bytes (meantRole s role) k) l
 
 never-bytes : option stamp .enc none ≡ 0 ∷ []
 unfolding option via enum _∣_ nothing
@@ -225,13 +218,13 @@ time-bytes z = refl
 pub expiry-never : {b b′ : List ℕ} {p q : Pen} {e : Expiry} → 9 ≤ length b → option stamp .Ok (meantExpiry e) → e ≡ Never → p ≡ pen 0 → Wrote b b′ p q (0 ∷ []) → Filled (option stamp .enc (meantExpiry e)) b′ (q .at)
 expiry-never {b} {b′} {p} {q} {e} l k d a W =
     let x : option stamp .enc (meantExpiry e) ≡ 0 ∷ [] = ap (λ (y : Expiry). option stamp .enc (meantExpiry y)) d ∙ never-bytes in
-    filled 9 a (subst (λ (y : List ℕ). Wrote b b′ p q y) (sym x) W) (widths.time-within .most (meantExpiry e) k) l
+    filled 9 a (subst (λ (y : List ℕ). Wrote b b′ p q y) (sym x) W) (widths.time-within .bytes (meantExpiry e) k) l
 
 pub expiry-at : {b b₁ b′ : List ℕ} {p p₁ q : Pen} {e : Expiry} (z : ℤ) (n : ℕ) → 9 ≤ length b → option stamp .Ok (meantExpiry e) → e ≡ At z → n ≡ ofZ w64 z → p ≡ pen 0 → Wrote b b₁ p p₁ (1 ∷ []) → Wrote b₁ b′ p₁ q (bigEndian 8 n)
     → Filled (option stamp .enc (meantExpiry e)) b′ (q .at)
 expiry-at {b} {b₁} {b′} {p} {p₁} {q} {e} z n l k d f a W Y =
     let x : option stamp .enc (meantExpiry e) ≡ 1 ∷ bigEndian 8 n = ap (λ (y : Expiry). option stamp .enc (meantExpiry y)) d ∙ time-bytes z ∙ ap (λ (i : ℕ). 1 ∷ bigEndian 8 i) (sym f) in
-    filled 9 a (subst (λ (y : List ℕ). Wrote b b′ p q y) (sym x) (wrote-then W Y)) (widths.time-within .most (meantExpiry e) k) l
+    filled 9 a (subst (λ (y : List ℕ). Wrote b b′ p q y) (sym x) (wrote-then W Y)) (widths.time-within .bytes (meantExpiry e) k) l
 
 pub update-bytes : (x y : NormalizedEvent) → operationF .enc (edits.Operation.Update x y) ≡ 1 ∷ (fieldsF .enc x ++ fieldsF .enc y)
 unfolding operationF via enum _∣_ _⊗_
@@ -241,13 +234,9 @@ pub delete-bytes : operationF .enc edits.Operation.Delete ≡ 2 ∷ []
 unfolding operationF via enum _∣_ nothing
 delete-bytes = refl
 
-update-ok : (x y : NormalizedEvent) → operationF .Ok (edits.Operation.Update x y) → fieldsF .Ok x × fieldsF .Ok y
-unfolding operationF via enum _∣_ _⊗_
-update-ok x y k = k
-
 module _ (s : List ℕ) {b b′ : List ℕ} {p q : Pen} (o : Operation) (l : 1469 ≤ length b) (k : operationF .Ok (meantOperation s o)) (a : p ≡ pen 0) where
   operation-filled : (x : List ℕ) → operationF .enc (meantOperation s o) ≡ x → Wrote b b′ p q x → Filled (operationF .enc (meantOperation s o)) b′ (q .at)
-  operation-filled x e W = filled 1469 a (subst (λ (y : List ℕ). Wrote b b′ p q y) (sym e) W) (widths.operation-within .most (meantOperation s o) k) l
+  operation-filled x e W = filled 1469 a (subst (λ (y : List ℕ). Wrote b b′ p q y) (sym e) W) (widths.operation-within .bytes (meantOperation s o) k) l
 
   pub operation-create : {b₁ x : List ℕ} {p₁ : Pen} (event : ℕ) → o ≡ Create event → PartOf eventF s event x → Wrote b b₁ p p₁ (0 ∷ []) → Wrote b₁ b′ p₁ q x → Filled (operationF .enc (meantOperation s o)) b′ (q .at)
   operation-create {x = x} event e P W Y =
@@ -263,22 +252,6 @@ module _ (s : List ℕ) {b b′ : List ℕ} {p q : Pen} (o : Operation) (l : 146
 
   pub operation-delete : o ≡ Delete → Wrote b b′ p q (2 ∷ []) → Filled (operationF .enc (meantOperation s o)) b′ (q .at)
   operation-delete e W = operation-filled (2 ∷ []) (ap (λ (y : Operation). operationF .enc (meantOperation s y)) e ∙ delete-bytes) W
-
--- ---- a name by value
-
-pub short-resource : (t : List ℕ) (v : Text) → t ≡ v → resourceId .Ok v → length t ≤ 255
-unfolding text max-id
-short-resource t v e k = subst (λ (x : List ℕ). length x ≤ 255) (sym e) (let h = k .0 in omega arith)
-
-pub named : {z b t : List ℕ} {p q : Pen} (v : Text) → resourceId .Ok v → t ≡ v → p ≡ pen 0 → z ≡ zeros 33 → length z ≡ 33 → Wrote z b p q (length t ∷ t) → (name-of b ≡ v) × Named b
-unfolding text padded
-named {z} {b} {t} {p} {q} v k e a y l W₀ =
-    let W : Wrote z b (pen 0) q (resourceId .enc v) = subst (λ (x : List ℕ). Wrote z b (pen 0) q (length x ∷ x)) e (subst (λ (p : Pen). Wrote z b p q (length t ∷ t)) a W₀) in
-    let m : length (resourceId .enc v) ≤ 33 = widths.name-within .most v k in
-    let S : Stands z b (pen 0) q (resourceId .enc v) = W .wrote (W .room refl (omega arith)) (omega arith) in
-    let s = S .place in
-    let n : q .at ≡ length (resourceId .enc v) = omega arith in
-    slot-named b v k (S .bytes ∙ ap (λ (x : List ℕ). resourceId .enc v ++ x) (ap₂ (λ (i : ℕ) (x : List ℕ). drop i x) n y ∙ drop-zeros (length (resourceId .enc v)) 33 m))
 
 pub bits-told : (z : ℤ) {n : ℕ} → SFits w64 z → n ≡ ofZ w64 (toZ w64 (ofZ w64 z)) → n ≡ ofZ w64 z
 bits-told z F e = e ∙ ap (ofZ w64) (toZ-ofZ F)

@@ -24,7 +24,6 @@ use crate::writing::put_expiry;
 use crate::writing::put_id;
 use crate::writing::put_operation;
 use crate::writing::put_role;
-use crate::writing::resource_name;
 use frame::Edit;
 use frame::Operation;
 use machine::Progress;
@@ -175,7 +174,7 @@ fn target(work: &[u8], frame: &[u8], edit: Edit) -> Name
     ensures { λ r. ⌜ Named (r .bytes) ⌝ }
 {
     let what = edit.operation;
-    let name = resource_name(frame, edit.resource);
+    let name = machine::name_from(frame::resource_at(frame, edit.resource));
     if is_create(what) {
         return name;
     }

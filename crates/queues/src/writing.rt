@@ -88,14 +88,3 @@ pub fn put_operation(buf: &mut [u8], frame: &[u8], operation: Operation) -> usiz
         }
     }
 }
-
-// A name by value of the resource at a place of the frame.
-pub fn resource_name(frame: &[u8], resource: usize) -> Name
-    requires { ⌜ resourceId .Ok (resourceAt (now frame) resource) ⌝ }
-    ensures { λ r. ⌜ (name-of (r .bytes) ≡ resourceAt (now (frame .entry)) resource) × Named (r .bytes) ⌝ }
-{
-    let text = frame::resource_at(frame, resource);
-    let mut bytes = [0u8; 33];
-    let end = start().text(&mut bytes, text);
-    Name { bytes }
-}

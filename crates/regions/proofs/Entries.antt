@@ -4,12 +4,14 @@ use Prim.Native.Nat.{ℕ, suc, _+_, _-_, _*_, _^_, _≤_, _<_, compare, Ordering
 use native.Mathlib.Omega.{arith}
 use mathlib.Core.Path.{_≡_, refl, sym, ap, ap₂, _∙_, subst}
 use mathlib.Core.List.{List, [], _∷_, _++_, append-assoc, append-nil}
-use mathlib.Core.Bool.{Bool, true, false, _&&_}
+use mathlib.Core.Bool.{Bool, true, false}
 use borrow.Author.Tests.{lt-ltb, eqb-true}
 use lib.Dec.{T, eqb}
 use lib.ListN.{length, take, drop, length-append, length-replicate, length-drop, take-append-drop}
 use lib.Seq.{take-at, drop-at, take-all}
 use Rattle.format.specs.Format.{Format, Lawful, All, text, number, bigEndian}
+use Rattle.format.proofs.SizeLaws.{Within, length-digits}
+use Rattle.format.proofs.FormatLaws.{true-T, T-true}
 use Rattle.spans.specs.Bytes.{zeros, both, allZero}
 use Rattle.spans.specs.Compare.{order}
 use Rattle.tables.specs.Table.{Table, Sized, encTable, slotsOf, text as key-text, keyOk, keysOk, isLess, rising, risingFrom, WellFormed}
@@ -25,11 +27,12 @@ use Rattle.model.specs.Limits.{max-id}
 use Rattle.model.proofs.FormatsLaws.{resourceId-law, u64-law}
 use Rattle.model.proofs.SavedFormLaws.{purposeF-law}
 use Rattle.model.proofs.Tables.{turned, by-name-turned, compare-turned}
+use Rattle.model.proofs.Fitting.{length-map}
 use Rattle.state.specs.Layout.{padded, field, name-slot, number-key, flight-slot, region}
-use Rattle.state.proofs.Widths.{Within, purpose-within, length-digits}
+use Rattle.state.proofs.Widths.{purpose-within}
 use Rattle.state.proofs.Padded.{length-field, length-name, text-name, text-name-only, text-number, number-is}
 use Rattle.state.proofs.Orders.{flipped, name-order, number-order}
-use Rattle.state.proofs.Rows.{length-rows, sized-rows}
+use Rattle.state.proofs.Rows.{sized-rows}
 use Rattle.state.proofs.Regions.{rows-long, flight-long}
 use Rattle.regions.specs.Tests.{filled, isField, isNamed, isFlight, everySlot}
 use Rattle.regions.specs.Inside.{MapIn, NamesIn}
@@ -49,18 +52,6 @@ pub record Rows {E K : Type 0} (slot : E → List ℕ) (P : E → Type 0) (key :
   pub writes : (e : E) → P e → test (slot e) ≡ true
   pub keyed : (e : E) → P e → keyOk width (slot e) ≡ true
   pub ordered : (a b : E) → P a → P b → isLess (order (key-text (slot a)) (key-text (slot b))) ≡ by (ord (key a) (key b)) true false false
-
-true-T : (b : Bool) → b ≡ true → T b
-true-T true e = tt
-true-T false e = absurd (tables.false-true e)
-
-T-true : (b : Bool) → T b → b ≡ true
-T-true true t = refl
-T-true false t = absurd t
-
-both-and : (a b : Bool) → both a b ≡ (a && b)
-both-and true b = refl
-both-and false b = refl
 
 -- entries that the slots of a table are
 record Entries {E : Type 0} (slot : E → List ℕ) (P : E → Type 0) (t : Table) : Type 0 where
@@ -101,13 +92,13 @@ module _ {E K : Type 0} {slot : E → List ℕ} {P : E → Type 0} {key : E → 
   rising-are [] a = refl
   rising-are (e ∷ []) a = refl
   rising-are (e ∷ (x ∷ m)) a =
-      ap₂ both (R .ordered e x (a .0) (a .1 .0)) (rising-are (x ∷ m) (a .1)) ∙ both-and (by (ord (key e) (key x)) true false false) (rise ord (map key (x ∷ m)))
+      ap₂ both (R .ordered e x (a .0) (a .1 .0)) (rising-are (x ∷ m) (a .1)) ∙ tables.both-and (by (ord (key e) (key x)) true false false) (rise ord (map key (x ∷ m)))
 
   pub rows-yes : (limit : ℕ) (r : List ℕ) → length r ≡ 1 + limit * stride → WellFormed stride width limit r → everySlot test (slotsOf stride r) ≡ true → Held-in slot P key ord limit stride r
   rows-yes limit r l W e =
       let s : slotsOf stride r ≡ W .t = ap (slotsOf stride) (W .is) ∙ tables.slots-enc stride (length r) (W .t) (W .sized) in
       let d = decode (W .t) (W .sized) (ap (everySlot test) (sym s) ∙ e) in
-      let n : length (W .t) ≡ length (d .rows) = ap length (d .is) ∙ length-rows slot (d .rows) in
+      let n : length (W .t) ≡ length (d .rows) = ap length (d .is) ∙ length-map slot (d .rows) in
       let f = W .few in
       record {
         rows = d .rows;
@@ -128,7 +119,7 @@ module _ {E K : Type 0} {slot : E → List ℕ} {P : E → Type 0} {key : E → 
           t = map slot (H .rows);
           is = H .bytes ∙ ap (λ (n : ℕ). encTable n (map slot (H .rows))) (sym l);
           sized = sized-are;
-          few = subst (λ (n : ℕ). n ≤ limit) (sym (length-rows slot (H .rows))) (H .small);
+          few = subst (λ (n : ℕ). n ≤ limit) (sym (length-map slot (H .rows))) (H .small);
           keys = keys-are (H .rows) (H .each);
           sorted = rising-are (H .rows) (H .each) ∙ T-true (rise ord (map key (H .rows))) (H .rises);
         }
@@ -138,14 +129,15 @@ module _ {E K : Type 0} {slot : E → List ℕ} {P : E → Type 0} {key : E → 
 
 -- ---- slots that start with a name
 
+turned-less : (o : Ordering) → isLess (flipped (turned o)) ≡ by o true false false
+unfolding by
+turned-less Ordering·lt = refl
+turned-less Ordering·eq = refl
+turned-less Ordering·gt = refl
+
 less-name : (a b : Text) → isLess (order a b) ≡ by (by-name a b) true false false
 unfolding by
-less-name a b = ap isLess (name-order a b ∙ ap flipped (by-name-turned a b)) ∙ go (by-name a b)
-  where
-    go : (o : Ordering) → isLess (flipped (turned o)) ≡ by o true false false
-    go Ordering·lt = refl
-    go Ordering·eq = refl
-    go Ordering·gt = refl
+less-name a b = ap isLess (name-order a b ∙ ap flipped (by-name-turned a b)) ∙ turned-less (by-name a b)
 
 pub name-keyed : (name : Text) (x : List ℕ) → resourceId .Ok name → keyOk 33 (name-slot name ++ x) ≡ true
 unfolding keyOk padded text max-id
@@ -172,7 +164,7 @@ cut-first m a b l = take-at a b m l
 cut-second : (m n : ℕ) (a b : List ℕ) → length a ≡ m → length b ≡ n → part m n (a ++ b) ≡ b
 cut-second m n a b l k = ap (take n) (drop-at a b m l) ∙ take-all n b (omega arith)
 
-module _ {A : Type 0} {f : Format A} {n : ℕ} (F : Lawful f) (W : Within f n) (v : Value) (is : (s : List ℕ) → isField v s ≡ filled f s) where
+module _ {A : Type 0} {f : Format A} {n : ℕ} (F : Lawful f) (W : Within n f) (v : Value) (is : (s : List ℕ) → isField v s ≡ filled f s) where
   abbrev named-slot : Text × A → List ℕ
   named-slot e = name-slot (e .0) ++ field n f (e .1)
 
@@ -223,12 +215,7 @@ name-rows = record {
 
 less-number : (a b : ℕ) → a < 256 ^ 8 → b < 256 ^ 8 → isLess (order (bigEndian 8 a) (bigEndian 8 b)) ≡ by (by-number a b) true false false
 unfolding by by-number
-less-number a b p q = ap isLess (number-order a b p q ∙ ap flipped (compare-turned a b)) ∙ go (compare a b)
-  where
-    go : (o : Ordering) → isLess (flipped (turned o)) ≡ by o true false false
-    go Ordering·lt = refl
-    go Ordering·eq = refl
-    go Ordering·gt = refl
+less-number a b p q = ap isLess (number-order a b p q ∙ ap flipped (compare-turned a b)) ∙ turned-less (compare a b)
 
 abbrev FlightOk : ℕ × Purpose → Type 0
 FlightOk e = u64 .Ok (e .0) × purposeF .Ok (e .1)

@@ -22,6 +22,7 @@ use Rattle.frame.proofs.Steps.{rest-at, skips-le, skips-via}
 use Rattle.frame.proofs.Skips.{Few, few-case, few-none, found-below}
 use Rattle.frame.proofs.Means.{means-nothing, nth-first, nth-other, skips-case}
 use Rattle.frame.specs.declared.Cursor.{Cursor}
+use Rattle.frame.proofs.Inputs.{list-from-few}
 use Rattle.regions.specs.Tests.{zerosLeft, filled, skipsValue, isField}
 use Rattle.regions.specs.Inside.{FieldIn}
 use Rattle.regions.specs.declared.field.Value.{Value}
@@ -80,9 +81,6 @@ module _ {A : Type 0} {f : Format A} (F : Lawful f) where
       ap zerosLeft (ap (f .dec) (I .bytes) ∙ F .writes (I .value) (I .ok) (zeros (n - length (f .enc (I .value))))) ∙ tables.zeros-allZero (n - length (f .enc (I .value)))
 
 -- ---- enums, by the byte that says which case follows
-
-abbrev list-from-few : Few 3 (nothing ∣ shortText ∣ shortText ∣ noCase)
-list-from-few = few-case nothing (few-case shortText (few-case shortText few-none))
 
 abbrev purpose-few : Few 5 (nothing ∣ resourceId ∣ resourceId ∣ resourceId ∣ resourceId ∣ noCase)
 purpose-few = few-case nothing (few-case resourceId (few-case resourceId (few-case resourceId (few-case resourceId few-none))))

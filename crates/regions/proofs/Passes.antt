@@ -1,26 +1,25 @@
 -- The regions of a pass: zeros where none is open, and a pass that fits behind the byte 1. Assumes nothing.
-use Prim.Native.Nat.{ℕ, suc, _+_, _-_, _≤_}
+use Prim.Native.Nat.{ℕ, _+_, _-_, _≤_}
 use native.Mathlib.Omega.{arith}
-use mathlib.Core.Path.{_≡_, refl, sym, ap, ap₂, _∙_}
-use mathlib.Core.List.{List, [], _∷_, _++_}
+use mathlib.Core.Path.{_≡_, refl, sym, ap, _∙_}
+use mathlib.Core.List.{List, [], _∷_}
 use mathlib.Core.Option.{Option, none, some}
 use mathlib.Core.Bool.{Bool, true, false}
 use lib.ListN.{length, take, getD, length-replicate, replicate-append-replicate}
 use lib.Seq.{drop-cons, take-at, drop-at}
-use Rattle.format.specs.Format.{bool, option, via, enum, below, _∣_, nothing}
+use Rattle.format.specs.Format.{bool, option, via, below}
 use Rattle.spans.specs.Bytes.{zeros, allZero}
-use Rattle.tables.specs.Table.{Table, flat, encTable, cutAt}
+use Rattle.spans.proofs.Laws.{more-zeros}
+use Rattle.tables.specs.Table.{Table, flat, cutAt}
 use Rattle.tables.proofs.Laws as tables
 use Rattle.lent.specs.Lent.{part}
-use Rattle.model.specs.Seam.{ListFrom}
 use Rattle.model.specs.State.{Pass}
 use Rattle.model.specs.Limits.{document01}
-use Rattle.model.specs.Maps.{map, is-some, keys}
-use Rattle.model.specs.WellFormed.{rising}
+use Rattle.model.specs.Maps.{map, is-some}
 use Rattle.model.specs.Formats.{shortText, listFromF}
 use Rattle.state.specs.Layout.{padded, field, region, name-slot, staged-slot, pass-of, no-pass}
-use Rattle.state.specs.Fits.{PassFits}
 use Rattle.state.specs.Contract.{state-length}
+use Rattle.state.proofs.Fresh.{no-text, no-flag, from-start, no-pass-fits}
 use Rattle.regions.specs.Inside.{OpenIn, PassIn}
 
 -- ---- runs of zeros
@@ -39,49 +38,21 @@ zeros-part n o k h =
 
 -- ---- the bytes of `no-pass`
 
-empty : (n : ℕ) → encTable (suc n) [] ≡ zeros (suc n)
-unfolding encTable
-empty n =
-    let e : suc n - 1 - 0 ≡ n = omega arith in
-    ap (λ (k : ℕ). 0 ∷ zeros k) e
-
-no-text : field 34 (option shortText) none ≡ zeros 34
-unfolding option via enum _∣_ nothing padded
-no-text = refl
-
-no-flag : field 1 bool false ≡ 0 ∷ []
-unfolding bool via below padded
-no-flag = refl
-
 a-flag : field 1 bool true ≡ 1 ∷ []
 unfolding bool via below padded
 a-flag = refl
 
-from-start : field 34 listFromF ListFrom.Start ≡ zeros 34
-unfolding listFromF via enum _∣_ nothing padded
-from-start = refl
-
 no-staged : region (document01 .staged) 916 (map staged-slot []) ≡ zeros 9161
 unfolding document01 map
-no-staged = empty 9160
+no-staged = tables.empty-zeros 9161 (omega arith)
 
 no-seen : region (document01 .seen) 33 (map name-slot []) ≡ zeros 1057
 unfolding document01 map
-no-seen = empty 1056
+no-seen = tables.empty-zeros 1057 (omega arith)
 
 no-observed : region (document01 .observed) 33 (map name-slot []) ≡ zeros 529
 unfolding document01 map
-no-observed = empty 528
-
-nothing-fits : PassFits document01 (pass-of none)
-unfolding document01 rising keys map pass-of no-pass option via enum _∣_ nothing listFromF
-nothing-fits = record {
-  from = tt;
-  staged = record { small = omega arith; each = tt; rises = tt };
-  seen = record { small = omega arith; each = tt; rises = tt };
-  observed = record { small = omega arith; each = tt; rises = tt };
-  done = tt;
-}
+no-observed = tables.empty-zeros 529 (omega arith)
 
 -- ---- the open byte
 
@@ -119,7 +90,7 @@ module _ (b : List ℕ) (l : length b ≡ state-length) where
     unfolding pass-of no-pass is-some
     shut-yes = record {
       pass = none;
-      fits = nothing-fits;
+      fits = no-pass-fits;
       is-open = zeros-at 0 1 (omega arith) ∙ sym no-flag;
       full = zeros-at 1 1 (omega arith) ∙ sym no-flag;
       from = zeros-at 2 34 (omega arith) ∙ sym from-start;
@@ -135,14 +106,8 @@ module _ (b : List ℕ) (l : length b ≡ state-length) where
   abbrev blank : Table
   blank = zeros 1 ∷ zeros 1 ∷ zeros 34 ∷ zeros 9161 ∷ zeros 1057 ∷ zeros 529 ∷ zeros 34 ∷ []
 
-  join : {a b : List ℕ} {l m : Table} → a ≡ b → l ≡ m → _≡_ {A = Table} (a ∷ l) (b ∷ m)
-  join p q = ap₂ (λ (x : List ℕ) (y : Table). x ∷ y) p q
-
   flat-blank : flat blank ≡ zeros 10817
-  flat-blank = more 1 10816 (more 1 10815 (more 34 10781 (more 9161 1620 (more 1057 563 (more 529 34 (more 34 0 refl))))))
-    where
-      more : (n m : ℕ) {l : List ℕ} → l ≡ zeros m → zeros n ++ l ≡ zeros (n + m)
-      more n m e = ap (λ (x : List ℕ). zeros n ++ x) e ∙ replicate-append-replicate n m 0
+  flat-blank = more-zeros 1 10816 refl (more-zeros 1 10815 refl (more-zeros 34 10781 refl (more-zeros 9161 1620 refl (more-zeros 1057 563 refl (more-zeros 529 34 refl (more-zeros 34 0 refl refl))))))
 
   -- the part at o of the pass's bytes
   inner : (o k : ℕ) {x : List ℕ} → o + k ≤ 10817 → part (9185 + o) k b ≡ x → part o k (part 9185 10817 b) ≡ x
@@ -154,13 +119,13 @@ module _ (b : List ℕ) (l : length b ≡ state-length) where
       let n : P .pass ≡ none = shut-byte (P .pass) (P .is-open) (λ k. let h2 = h in omega arith) .1 in
       let c : List ℕ = part 9185 10817 b in
       let e : cutAt 0 pass-sizes c ≡ blank =
-      join (inner 0 1 (omega arith) (P .is-open ∙ ap (λ p. field 1 bool (is-some p)) n ∙ no-flag)) (
-      join (inner 1 1 (omega arith) (P .full ∙ ap (λ p. field 1 bool (pass-of p .full)) n ∙ no-flag)) (
-      join (inner 2 34 (omega arith) (P .from ∙ ap (λ p. field 34 listFromF (pass-of p .from)) n ∙ from-start)) (
-      join (inner 36 9161 (omega arith) (P .staged ∙ ap (λ p. region (document01 .staged) 916 (map staged-slot (pass-of p .staged))) n ∙ no-staged)) (
-      join (inner 9197 1057 (omega arith) (P .seen ∙ ap (λ p. region (document01 .seen) 33 (map name-slot (pass-of p .seen))) n ∙ no-seen)) (
-      join (inner 10254 529 (omega arith) (P .observed ∙ ap (λ p. region (document01 .observed) 33 (map name-slot (pass-of p .observed))) n ∙ no-observed)) (
-      join (inner 10783 34 (omega arith) (P .done ∙ ap (λ p. field 34 (option shortText) (pass-of p .done)) n ∙ no-text)) refl)))))) in
+      tables.join (inner 0 1 (omega arith) (P .is-open ∙ ap (λ p. field 1 bool (is-some p)) n ∙ no-flag)) (
+      tables.join (inner 1 1 (omega arith) (P .full ∙ ap (λ p. field 1 bool (pass-of p .full)) n ∙ no-flag)) (
+      tables.join (inner 2 34 (omega arith) (P .from ∙ ap (λ p. field 34 listFromF (pass-of p .from)) n ∙ from-start)) (
+      tables.join (inner 36 9161 (omega arith) (P .staged ∙ ap (λ p. region (document01 .staged) 916 (map staged-slot (pass-of p .staged))) n ∙ no-staged)) (
+      tables.join (inner 9197 1057 (omega arith) (P .seen ∙ ap (λ p. region (document01 .seen) 33 (map name-slot (pass-of p .seen))) n ∙ no-seen)) (
+      tables.join (inner 10254 529 (omega arith) (P .observed ∙ ap (λ p. region (document01 .observed) 33 (map name-slot (pass-of p .observed))) n ∙ no-observed)) (
+      tables.join (inner 10783 34 (omega arith) (P .done ∙ ap (λ p. field 34 (option shortText) (pass-of p .done)) n ∙ no-text)) refl)))))) in
       let s : c ≡ flat (cutAt 0 pass-sizes c) = tables.cut-is 0 pass-sizes c (sym (tables.part-length b 9185 10817 (omega arith))) in
       ap allZero (s ∙ ap flat e ∙ flat-blank) ∙ tables.zeros-allZero 10817
 

@@ -1,10 +1,10 @@
 -- A buffer of the whole length is a state's bytes exactly where each region holds a value that fits. Assumes nothing.
 use Prim.Native.Nat.{ℕ}
-use mathlib.Core.Path.{_≡_, refl, sym, ap, ap₂, _∙_}
+use mathlib.Core.Path.{_≡_, refl, sym, ap, _∙_}
 use mathlib.Core.List.{List, [], _∷_}
 use lib.ListN.{length}
 use Rattle.format.specs.Format.{number}
-use Rattle.tables.specs.Table.{Table, flat, cutAt}
+use Rattle.tables.specs.Table.{flat, cutAt}
 use Rattle.tables.proofs.Laws as tables
 use Rattle.model.specs.State.{SyncState}
 use Rattle.model.specs.Limits.{document01}
@@ -13,9 +13,6 @@ use Rattle.state.specs.Fits.{Fits}
 use Rattle.state.specs.Contract.{state-length, Keeps, HasState}
 use Rattle.state.proofs.Parts as parts
 use Rattle.regions.specs.Inside.{EditsIn, OthersIn}
-
-join : {a b : List ℕ} {l m : Table} → a ≡ b → l ≡ m → _≡_ {A = Table} (a ∷ l) (b ∷ m)
-join p q = ap₂ (λ (x : List ℕ) (y : Table). x ∷ y) p q
 
 abbrev numbered : List ℕ
 numbered = 9151 ∷ 34 ∷ 1 ∷ 1 ∷ 34 ∷ 9161 ∷ 1057 ∷ 529 ∷ 34 ∷ 35641 ∷ 1033 ∷ 8 ∷ 1313 ∷ 8 ∷ 9 ∷ 529 ∷ []
@@ -55,22 +52,22 @@ module _ (b : List ℕ) (l : length b ≡ state-length) (O : OthersIn b) (I : Ed
   state-regions : cutAt 0 numbered b ≡ regions document01 state-in
   unfolding regions
   state-regions =
-      join (O .records .bytes) (
-      join (O .cursor .bytes) (
-      join (O .pass .is-open) (
-      join (O .pass .full) (
-      join (O .pass .from) (
-      join (O .pass .staged) (
-      join (O .pass .seen) (
-      join (O .pass .observed) (
-      join (O .pass .done) (
-      join (I .bytes) (
-      join (O .in-flight .bytes) (
-      join (O .next-request .bytes) (
-      join (O .learned .bytes) (
-      join (O .learned-all .bytes) (
-      join (O .now .bytes) (
-      join (O .aliases .bytes) refl)))))))))))))))
+      tables.join (O .records .bytes) (
+      tables.join (O .cursor .bytes) (
+      tables.join (O .pass .is-open) (
+      tables.join (O .pass .full) (
+      tables.join (O .pass .from) (
+      tables.join (O .pass .staged) (
+      tables.join (O .pass .seen) (
+      tables.join (O .pass .observed) (
+      tables.join (O .pass .done) (
+      tables.join (I .bytes) (
+      tables.join (O .in-flight .bytes) (
+      tables.join (O .next-request .bytes) (
+      tables.join (O .learned .bytes) (
+      tables.join (O .learned-all .bytes) (
+      tables.join (O .now .bytes) (
+      tables.join (O .aliases .bytes) refl)))))))))))))))
 
   state-bytes : b ≡ layout document01 state-in
   unfolding layout

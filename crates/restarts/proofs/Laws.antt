@@ -1,36 +1,34 @@
 -- What is lost with a restart, and asked for again. Assumes nothing.
-use Prim.Native.Nat.{ℕ, zero, suc, _+_, _-_, _*_, _≤_, _<_}
-use native.Mathlib.Nat.{not-suc-le-zero, le-of-suc-le-suc}
+use Prim.Native.Nat.{ℕ, _+_, _*_, _≤_, _<_}
 use native.Mathlib.Omega.{arith}
 use mathlib.Core.Path.{_≡_, refl, sym, ap, _∙_, subst}
-use mathlib.Core.List.{List, [], _∷_, _++_}
+use mathlib.Core.List.{List, [], _∷_}
 use mathlib.Core.Option.{Option, none, some}
 use mathlib.Core.Bool.{Bool, true, false, false≢true}
 use lib.ListN.{length, take, drop, getD, length-append}
 use Rattle.format.specs.Format.{All}
-use Rattle.spans.specs.Bytes.{zeros}
-use Rattle.tables.proofs.Laws as tables
-use Rattle.tables.specs.Table.{Table, flat, Sized, encTable, text}
+use Rattle.tables.specs.Table.{text}
 use Rattle.model.specs.Event.{Text}
 use Rattle.model.specs.Seam.{ResourceId, Request}
 use Rattle.model.specs.Limits.{Limits, document01}
 use Rattle.model.specs.Maps.{if_then_else_, map, keys, is-some}
 use Rattle.model.specs.Formats.{resourceId}
 use Rattle.model.specs.State.{Map, Pass, Queue, Purpose, SyncState, with-in-flight}
-use Rattle.model.specs.Machine.{Machine, Run, ok, _>>=_, for-each, match_none:_some:_, request, in-pass, with-state, set-edits, set-in-flight, set-queue, queue-of}
+use Rattle.model.specs.Machine.{Machine, Run, ok, _>>=_, for-each, match_none:_some:_, request, in-pass, with-state, set-in-flight, set-queue}
 use Rattle.model.specs.Sync.{doubt, change-front, change-head, without-plan, start-edit, restart-edit, read-unread, resume-pass, resume}
-use Rattle.state.specs.Layout.{padded, name-slot, pending-slot, edit-slots, pass-of}
+use Rattle.model.proofs.Fitting.{length-map}
+use Rattle.state.specs.Layout.{name-slot, pending-slot, edit-slots, pass-of}
 use Rattle.state.specs.Fits.{QueueFits}
 use Rattle.state.specs.Contract.{Keeps, HasState, Reads, Edits}
 use Rattle.state.specs.Values.{name-of, Named}
-use Rattle.state.proofs.Padded.{length-name, text-name-only}
-use Rattle.state.proofs.Rows.{length-rows, sized-rows, row-at}
-use Rattle.state.proofs.Ops.{slot-named}
+use Rattle.state.proofs.Padded.{text-name-only}
+use Rattle.state.proofs.Names.{name-listed}
 use Rattle.flights.specs.Asked.{Listed, Lists, lost}
 use Rattle.observe.specs.Reading.{HasList}
 use Rattle.observe.proofs.Each as each
 use Rattle.waiting.specs.Entries.{ListsResources}
-use Rattle.waiting.specs.Queues.{queue-in, put-in, queue, put-queue}
+use Rattle.waiting.specs.Queues.{queue, put-queue}
+use Rattle.waiting.proofs.Bridge.{queue-is, set-queue-is}
 use Rattle.machine.specs.declared.Progress.{Progress}
 use Rattle.machine.specs.Contract.{Does}
 use Rattle.machine.proofs.Runs as runs
@@ -38,16 +36,6 @@ use Rattle.passes.specs.Reading.{request-from}
 use Rattle.restarts.specs.Resuming.{doubt-lost, restart-edits, Queued, HasQueued}
 
 -- ---- the Refreshes that were in flight
-
-pub doubt-turn : (l : List Text) (i count : ℕ) {w o w₁ o₁ w₂ o₂ : List ℕ} {p q s : Progress} (b : List ℕ) → i < count → (x : List ℕ) → Listed l count x → b ≡ name-slot (getD l i [])
-    → Does (for-each doubt (take i l)) w o p q w₁ o₁ → Does (doubt (name-of b)) w₁ o₁ q s w₂ o₂ → Does (for-each doubt (take (i + 1) l)) w o p s w₂ o₂
-doubt-turn l i count {w₁ = w₁} {o₁} {w₂} {o₂} {q = q} {s} b h x L e D E =
-    let c : count ≡ length l = L .many in
-    let n : name-of b ≡ getD l i [] = ap text e ∙ text-name-only (getD l i []) in
-    each.each-turn doubt l [] i (omega arith) D (subst (λ (r : Text). Does (doubt r) w₁ o₁ q s w₂ o₂) n E)
-
-pub doubt-all : (l : List Text) (i count : ℕ) {w o w₁ o₁ : List ℕ} {p q : Progress} (x : List ℕ) → i ≤ count → count ≤ i → Listed l count x → Does (for-each doubt (take i l)) w o p q w₁ o₁ → Does (for-each doubt l) w o p q w₁ o₁
-doubt-all l i count x a b L D = let c : count ≡ length l = L .many in each.each-end doubt l i (omega arith) D
 
 pub lost-list : (w b : List ℕ) (n : ℕ) → HasState w → length b ≡ 792 → Lists lost w n b → HasList n b
 lost-list w b n K l L = record { names = lost (K .state); listed = L .is (K .state) (K .keeps); long = l }
@@ -61,18 +49,9 @@ doubts-lost n K L E d =
 
 -- ---- the heads of the queues
 
-set-queue-is : (r : ResourceId) (q : Queue) (m : Machine) → with-state (put-queue r q (m .state)) m ≡ set-queue r q m
-unfolding set-queue set-edits put-in
-set-queue-is r [] m = refl
-set-queue-is r (p ∷ q) m = refl
-
-queue-is : (r : ResourceId) (m : Machine) → queue r (m .state) ≡ queue-of r m
-unfolding queue-of queue-in
-queue-is r m = refl
-
 cleared : (r : ResourceId) (m : Machine) → with-state (put-queue r (change-front without-plan (queue r (m .state))) (m .state)) m ≡ change-head without-plan r m
 unfolding change-head
-cleared r m = set-queue-is r (change-front without-plan (queue r (m .state))) m ∙ ap (λ (q : Queue). set-queue r (change-front without-plan q) m) (queue-is r m)
+cleared r m = sym (set-queue-is r (change-front without-plan (queue r (m .state))) m) ∙ ap (λ (q : Queue). set-queue r (change-front without-plan q) m) (sym (queue-is r m))
 
 pub restarts : {w w₁ o w′ o′ : List ℕ} {p q : Progress} (r : ResourceId) → Edits (λ s. put-queue r (change-front without-plan (queue r s)) s) w w₁ → Does (start-edit r) w₁ o p q w′ o′
     → Does (restart-edit r) w o p q w′ o′
@@ -81,27 +60,8 @@ restarts r E D = runs.is (restart-edit r) (λ m. ap (start-edit r) (cleared r m)
 
 -- ---- the names of the queues
 
-slot-in : (i : ℕ) (t : Table) → Sized 33 t → i < length t → take 33 (drop (i * 33) (padded 198 (flat t))) ≡ getD t i []
-unfolding padded encTable
-slot-in i t s l =
-    let n : 1 + i * 33 ≡ suc (i * 33) = omega arith in
-    let z : 198 - length (flat t) ≡ 199 - 1 - length (flat t) = omega arith in
-    ap (λ (k : ℕ). take 33 (drop (i * 33) (flat t ++ zeros k))) z ∙ sym (ap (λ (j : ℕ). take 33 (drop j (encTable 199 t))) n) ∙ tables.slot-at 33 199 i t s l
-
-ok-at : (m : List Text) (i : ℕ) → All (resourceId .Ok) m → i < length m → resourceId .Ok (getD m i [])
-ok-at [] i a l = absurd (not-suc-le-zero l)
-ok-at (x ∷ m) zero a l = a .0
-ok-at (x ∷ m) (suc i) a l = ok-at m i (a .1) (le-of-suc-le-suc l)
-
 pub queued-is : (b q : List ℕ) (i : ℕ) → q ≡ take 33 (drop (i * 33) b) → (names : List Text) (count : ℕ) → Queued names count b → i < count → (q ≡ name-slot (getD names i [])) × Named q
-queued-is b q i e names count L l =
-    let c : count ≡ length names = L .many in
-    let k : i < length names = omega arith in
-    let d : take 33 (drop (i * 33) b) ≡ getD (map name-slot names) i [] =
-    ap (λ (x : List ℕ). take 33 (drop (i * 33) x)) (L .is)
-    ∙ slot-in i (map name-slot names) (sized-rows name-slot 33 (resourceId .Ok) length-name names (L .each)) (subst (λ (x : ℕ). i < x) (sym (length-rows name-slot names)) k) in
-    let f : q ≡ name-slot (getD names i []) = e ∙ d ∙ row-at name-slot [] i names k in
-    (f, slot-named q (getD names i []) (ok-at names i (L .each) k) f .1)
+queued-is b q i e names count L l = let c : count ≡ length names = L .many in name-listed 198 b q i e names (L .each) (L .is) (omega arith)
 
 pub queued-below : (b : List ℕ) (i count : ℕ) → HasQueued count b → i < count → (length b ≡ 198) × (i < 6)
 queued-below b i count H l =
@@ -120,7 +80,7 @@ module _ (limits : Limits) where
   queues-few [] a = omega arith
   queues-few (e ∷ m) a =
       let n = length-append (map (pending-slot limits (e .0)) (e .1)) (edit-slots limits m) in
-      let k = length-rows (pending-slot limits (e .0)) (e .1) in
+      let k = length-map (pending-slot limits (e .0)) (e .1) in
       let h = a .0 .some in
       let i = queues-few m (a .1) in
       omega arith
@@ -133,7 +93,7 @@ module _ (limits : Limits) where
 queued-of : (w b : List ℕ) (n : ℕ) → ListsResources w n b → (s : SyncState) → Keeps s w → Queued (keys (s .edits)) n b
 unfolding keys document01
 queued-of w b n L s h =
-    let k : length (map (λ (e : ResourceId × Queue). e .0) (s .edits)) ≡ length (s .edits) = length-rows (λ (e : ResourceId × Queue). e .0) (s .edits) in
+    let k : length (map (λ (e : ResourceId × Queue). e .0) (s .edits)) ≡ length (s .edits) = length-map (λ (e : ResourceId × Queue). e .0) (s .edits) in
     let f = queues-few document01 (s .edits) (h .fits .edits .each) in
     let g = h .fits .edits .small in
     record {

@@ -11,6 +11,7 @@ use lib.Dec.{leb}
 use Rattle.format.specs.Format.{via, enum, _∣_, nothing}
 use Rattle.spans.specs.Bytes.{zeros}
 use Rattle.spans.specs.Compare.{order}
+use Rattle.spans.proofs.Laws.{drop-zeros}
 use Rattle.tables.specs.Table.{Table, Sized, encTable, place, insertSlot, removeSlot, someSlot, against, isEqual}
 use Rattle.tables.specs.declared.Place.the-variants.{Found, Missing}
 use Rattle.tables.proofs.Laws as tables
@@ -122,7 +123,7 @@ past b z1 r1 slot event l k q p d =
     let l0 : 0 + length b ≡ 33 = omega arith in
     let n0 : 0 + length (b ++ (0 ∷ [])) ≡ 34 = omega arith in
     let f : drop (0 + length b) z1 ≡ 0 ∷ drop (0 + length (b ++ (0 ∷ []))) z1 =
-    ap₂ drop l0 q ∙ records.drop-zeros 33 916 (omega arith) ∙ ap (λ (x : List ℕ). 0 ∷ x) (sym (ap₂ drop n0 q ∙ records.drop-zeros 34 916 (omega arith))) in
+    ap₂ drop l0 q ∙ drop-zeros 33 916 (omega arith) ∙ ap (λ (x : List ℕ). 0 ∷ x) (sym (ap₂ drop n0 q ∙ drop-zeros 34 916 (omega arith))) in
     let a : b ++ drop (0 + length b) z1 ≡ (b ++ (0 ∷ [])) ++ drop (0 + length (b ++ (0 ∷ []))) z1 =
     ap (λ (x : List ℕ). b ++ x) f ∙ sym (append-assoc b (0 ∷ []) (drop (0 + length (b ++ (0 ∷ []))) z1)) in
     let c : 882 - length event ≡ 883 - suc (length event) = omega arith in
@@ -150,7 +151,7 @@ removed-ok = (tt, refl)
 -- ---- unstage
 
 pub unstage-closed : (name : Text) (w : List ℕ) → getD w 9185 0 ≡ 0 → Edits (without-stage name) w w
-unstage-closed name w z = record { makes = λ s h. subst (λ (x : SyncState). Keeps x w) (pass.pass-none (λ p. with-staged (remove by-name name (p .staged)) p) s (pass.closed s w h z)) h }
+unstage-closed name w z = pass.unchanged (λ p. with-staged (remove by-name name (p .staged)) p) w z
 
 pub unstaged : (b w w′ : List ℕ) → Named b → (getD w 9185 0 ≡ 0 → ⊥)
     → ((t : Table) → Sized 916 t → part 9221 9161 w ≡ encTable 9161 t → w′ ≡ placed 9221 9161 (encTable 9161 (removeSlot b t)) w)

@@ -2,7 +2,7 @@
 use Prim.Native.Nat.{ℕ, zero, suc, _+_, _-_, _≤_, _<_}
 use native.Mathlib.Omega.{arith}
 use native.Mathlib.Numerals.{add-one}
-use mathlib.Core.Path.{_≡_, refl, sym, ap, _∙_, subst}
+use mathlib.Core.Path.{_≡_, refl, sym, ap, _∙_}
 use mathlib.Core.List.{List, [], _∷_, _++_, append-nil, append-assoc}
 use mathlib.Core.Bool.{Bool, true, false}
 use borrow.Author.Tests.{eq-eqb, ne-eqb}
@@ -104,10 +104,6 @@ module _ (which k : ℕ) (b o t : List ℕ) (owned : Bool) (v : Verdict) (e : v 
   pub unit-refused : (which ≡ 0 → ⊥) → (which ≡ 1 → ⊥) → refusedItems v k ≡ unitItems which k b o t owned
   unfolding unitItems
   unit-refused g h = rw (e, ne-eqb which 0 g, ne-eqb which 1 h)
-
--- the same items, by an equation
-pub listed-as : {a b : List ℕ} {p q : Pen} {n m : ℕ} {xs ys : List (List ℕ)} → Listed a b p n q m xs → xs ≡ ys → Listed a b p n q m ys
-listed-as {a = a} {b = b} {p = p} {q = q} {n = n} {m = m} L e = subst (λ xs. Listed a b p n q m xs) e L
 
 -- the loop over the units
 

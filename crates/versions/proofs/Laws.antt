@@ -1,33 +1,37 @@
 -- The version of an event: where its parts stand, and how two compare. Assumes nothing.
-use Prim.Native.Nat.{ℕ, suc, _+_, _-_, _^_, _≤_, _<_, Ordering, Ordering·lt, Ordering·eq, Ordering·gt}
+use Prim.Native.Nat.{ℕ, suc, _+_, _-_, _^_, _≤_, _<_}
 use native.Mathlib.Omega.{arith}
 use mathlib.Core.Path.{_≡_, refl, sym, ap, ap₂, _∙_}
 use mathlib.Core.List.{List, [], _∷_, _++_, append-assoc}
 use mathlib.Core.Option.{Option, none, some}
-use mathlib.Core.Bool.{Bool, true, false, not, _&&_, _||_}
+use mathlib.Core.Bool.{Bool, true, false, not, _&&_, _||_, or-false}
 use lib.ListN.{length, take, drop, getD, length-append, length-drop, length-replicate, replicate-append-replicate, take-append-drop}
 use lib.Seq.{take-at, drop-at, drop-drop, drop-append-add, take-all, getD-drop}
-use lib.Dec.{ltb, isEq}
+use lib.Dec.{ltb}
 use borrow.Author.Tests.{le-leb, lt-leb, lt-ltb, le-ltb}
 use Rattle.format.specs.Format.{option, via, enum, _∣_, nothing, _⊗_, below, number, bigEndian}
 use Rattle.format.specs.Format.{text as text-format}
 use Rattle.format.proofs.FormatLaws.{text-law, option-law}
+use Rattle.format.proofs.SizeLaws.{length-digits}
 use Rattle.spans.specs.Bytes.{zeros}
 use Rattle.spans.specs.Compare.{order}
+use Rattle.spans.proofs.Laws.{drop-zeros}
 use Rattle.numbers.specs.Big.{fromBe}
 use Rattle.numbers.proofs.Laws as numbers
 use Rattle.tables.specs.Table.{against, isEqual}
 use Rattle.tables.proofs.Laws as tables
 use Rattle.model.specs.Event.{Text, ProviderEvent}
 use Rattle.model.specs.Limits.{max-text}
-use Rattle.model.specs.Maps.{by-name, same-text}
+use Rattle.model.specs.Maps.{same-text}
 use Rattle.model.specs.Sync.{replaces}
 use Rattle.model.specs.Formats.{same, shortText, eventId, tag, u32, idsF, providerF, fieldsF, eventF}
+use Rattle.model.proofs.Tables.{same-true}
+use Rattle.model.proofs.ValidParts.{event-revision}
 use Rattle.state.specs.Layout.{padded, field}
-use Rattle.state.proofs.Orders.{flipped, name-order, to-digits}
-use Rattle.state.proofs.Widths.{length-digits, cursor-within}
+use Rattle.state.proofs.Orders.{to-digits}
+use Rattle.state.proofs.Widths.{cursor-within}
 use Rattle.state.proofs.Padded.{length-field, field-same}
-use Rattle.state.proofs.Ops.{same-self, same-true}
+use Rattle.state.proofs.Ops.{same-self, equal-same}
 use Rattle.versions.specs.Versions.{Stands, HasEvent, VersionOf, RevisionAt}
 
 -- ---- places
@@ -172,10 +176,6 @@ stands-padded e w p ok q = record {
 
 -- ---- the version
 
-revision-ok : (e : ProviderEvent) → eventF .Ok e → option shortText .Ok (e .revision)
-unfolding eventF via _⊗_
-revision-ok e ok = ok .1 .0
-
 mapper-ok : (e : ProviderEvent) → eventF .Ok e → e .mapper-version < 256 ^ 4
 unfolding eventF via _⊗_ number
 mapper-ok e ok = ok .1 .1 .0
@@ -184,7 +184,7 @@ mapper-ok e ok = ok .1 .1 .0
 pub version-room : (e : ProviderEvent) (b : List ℕ) (p r : ℕ) → eventF .Ok e → RevisionAt e b p → OptionPlace b p r → (p ≤ r) × (r + 12 ≤ length b) × (r ≤ p + 34)
 version-room e b p r ok U f =
     let l : r ≡ p + length (option shortText .enc (e .revision)) = option-place _ p r b _ (e .revision) (U .is) f in
-    let w = cursor-within .most (e .revision) (revision-ok e ok) in
+    let w = cursor-within .bytes (e .revision) (event-revision e ok) in
     (omega arith, room r 12 b _ (past-option _ p r b _ (e .revision) (U .is) f) (revision-long e (U .rest) (U .some)) (omega arith), omega arith)
 
 pub version-is : (e : ProviderEvent) (b revision : List ℕ) (p r mapper : ℕ) → eventF .Ok e → RevisionAt e b p → OptionPlace b p r → revision ≡ padded 34 (take (r - p) (drop p b)) → mapper ≡ fromBe 0 (take 4 (drop r b)) → VersionOf e revision mapper
@@ -202,23 +202,9 @@ unfolding padded
 padded-is from to b r h k e l =
     let x : List ℕ = take (to - from) (drop from b) in
     let n : length x ≡ to - from = tables.part-length b from (to - from) (omega arith) in
-    e ∙ ap (λ (y : List ℕ). x ++ y) (drop-zeros (length x) (omega arith))
-  where
-    drop-zeros : (m : ℕ) → m ≤ 34 → drop m (zeros 34) ≡ zeros (34 - m)
-    drop-zeros m l =
-        let q : 34 ≡ m + (34 - m) = omega arith in
-        ap (λ (j : ℕ). drop m (zeros j)) q ∙ ap (drop m) (sym (replicate-append-replicate m (34 - m) 0)) ∙ drop-at (zeros m) (zeros (34 - m)) m (length-replicate m 0)
+    e ∙ ap (λ (y : List ℕ). x ++ y) (drop-zeros (length x) 34 (omega arith))
 
 -- ---- two versions
-
-equal-same : (x y : List ℕ) → isEqual (order x y) ≡ same-text y x
-unfolding same-text
-equal-same x y = rw (name-order x y) (go (by-name y x))
-  where
-    go : (o : Ordering) → isEqual (flipped o) ≡ isEq o
-    go Ordering·lt = refl
-    go Ordering·eq = refl
-    go Ordering·gt = refl
 
 abbrev Rev : Option Text → List ℕ
 Rev o = field 34 (option shortText) o
@@ -239,22 +225,18 @@ against-all : (x y : List ℕ) → length x ≡ 34 → length y ≡ 34 → isEqu
 against-all x y l k = ap (λ (z : List ℕ). isEqual (order z y)) (take-all (length y) x (omega arith))
 
 rev-long : (e : ProviderEvent) (x : List ℕ) → eventF .Ok e → x ≡ Rev (e .revision) → length x ≡ 34
-rev-long e x ok q = ap length q ∙ length-field cursor-within (e .revision) (revision-ok e ok)
+rev-long e x ok q = ap length q ∙ length-field cursor-within (e .revision) (event-revision e ok)
 
 pub version-long : (e : ProviderEvent) (x : List ℕ) (m : ℕ) → eventF .Ok e → VersionOf e x m → length x ≡ 34
 version-long e x m ok D = rev-long e x ok (D .revision-is)
 
 stands-same : (e h : ProviderEvent) (x y : List ℕ) (r : Bool) → eventF .Ok e → eventF .Ok h → x ≡ Rev (e .revision) → y ≡ Rev (h .revision) → r ≡ isEqual (against 0 y x) → r ≡ same (option shortText) (e .revision) (h .revision)
 stands-same e h x y r a b p q s =
-    s ∙ against-all x y (rev-long e x a p) (rev-long h y b q) ∙ ap₂ (λ (u v : List ℕ). isEqual (order u v)) p q ∙ revisions-same (e .revision) (h .revision) (revision-ok e a) (revision-ok h b)
+    s ∙ against-all x y (rev-long e x a p) (rev-long h y b q) ∙ ap₂ (λ (u v : List ℕ). isEqual (order u v)) p q ∙ revisions-same (e .revision) (h .revision) (event-revision e a) (event-revision h b)
 
 or-true : (b : Bool) → (b || true) ≡ true
 or-true true = refl
 or-true false = refl
-
-or-false : (b : Bool) → (b || false) ≡ b
-or-false true = refl
-or-false false = refl
 
 module _ (x y : List ℕ) (m n : ℕ) (e h : ProviderEvent) (E : VersionOf e x m) (H : VersionOf h y n) where
   pub older : m < n → false ≡ replaces e h
@@ -308,4 +290,4 @@ pub has-is : (h : ProviderEvent) (x text y : List ℕ) (m : ℕ) (r : Bool) → 
 unfolding option via enum _∣_
 has-is h x text y m r ok D t q s =
     s ∙ against-all x y (rev-long h x ok (D .revision-is)) (ap length q ∙ length-field cursor-within (some text) t) ∙ ap₂ (λ (u v : List ℕ). isEqual (order u v)) (D .revision-is) q
-    ∙ revisions-same (h .revision) (some text) (revision-ok h ok) t
+    ∙ revisions-same (h .revision) (some text) (event-revision h ok) t

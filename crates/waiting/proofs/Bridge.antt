@@ -16,7 +16,7 @@ use Rattle.model.specs.State.{Pending, Queue}
 use Rattle.model.specs.Limits.{max-id, max-text}
 use Rattle.model.specs.Maps.{first}
 use Rattle.model.specs.Formats.{resourceId, shortText}
-use Rattle.model.specs.Machine.{match_none:_some:_, Machine, queue-of, set-queue, set-edits, entries}
+use Rattle.model.specs.Machine.{match_none:_some:_, Machine, queue-of, set-queue, set-edits, entries, with-state}
 use Rattle.model.specs.Sync.{head, with-plan, change-front, change-head, back, without-back, absorb}
 use Rattle.state.specs.Layout.{name-slot}
 use Rattle.state.specs.Values.{name-of, Named}
@@ -27,10 +27,13 @@ pub queue-is : (r : ResourceId) (m : Machine) → queue-of r m ≡ queue r (m .s
 unfolding queue-of queue-in
 queue-is r m = refl
 
+pub set-queue-is : (r : ResourceId) (q : Queue) (m : Machine) → set-queue r q m ≡ with-state (put-queue r q (m .state)) m
+unfolding set-queue set-edits put-in
+set-queue-is r [] m = refl
+set-queue-is r (p ∷ q) m = refl
+
 pub put-is : (r : ResourceId) (q : Queue) (m : Machine) → (set-queue r q m) .state ≡ put-queue r q (m .state)
-unfolding set-queue put-in set-edits
-put-is r [] m = refl
-put-is r (p ∷ q) m = refl
+put-is r q m = ap (λ (m : Machine). m .state) (set-queue-is r q m)
 
 pub entries-is : (m : Machine) → entries m ≡ all-entries (m .state)
 unfolding entries

@@ -23,12 +23,11 @@ use Rattle.model.specs.Machine.{match_none:_some:_, sum}
 use Rattle.model.specs.Formats.{resourceId}
 use Rattle.model.specs.WellFormed.{rising}
 use Rattle.model.proofs.Tables as orders
-use Rattle.model.proofs.Fitting.{all-append, all-insert, all-remove}
+use Rattle.model.proofs.Fitting.{all-append, all-insert, all-remove, length-map}
 use Rattle.state.specs.Layout.{pending-slot, queue-slots, edit-slots}
 use Rattle.state.specs.Fits.{PendingFits, QueueFits, EditsFit}
 use Rattle.state.proofs.Orders.{flipped, name-order}
 use Rattle.state.proofs.Padded.{text-name}
-use Rattle.state.proofs.Rows.{length-rows}
 use Rattle.waiting.specs.Queues.{queue-in, put-in, below}
 use Rattle.waiting.specs.Slots.{counts, tallied}
 
@@ -129,7 +128,7 @@ cut-gt r e m l C = record {
   post = C .post;
   is = rw l (ap (λ (t : Table). Rows (e .0) (e .1) ++ t) (C .is) ∙ sym (append-assoc (Rows (e .0) (e .1)) (C .pre) _));
   put = λ q. go q;
-  first = rw l (length-append (Rows (e .0) (e .1)) (C .pre) ∙ ap₂ _+_ (length-rows (Slot (e .0)) (e .1)) (C .first));
+  first = rw l (length-append (Rows (e .0) (e .1)) (C .pre) ∙ ap₂ _+_ (length-map (Slot (e .0)) (e .1)) (C .first));
   low = all-append (λ s. order (text s) r ≡ Less) (Rows (e .0) (e .1)) (C .pre) (rows-keyed Less r (e .0) (e .1) (name-order (e .0) r ∙ ap flipped l)) (C .low);
   high = C .high;
   own = rw l (C .own);
@@ -173,7 +172,7 @@ tally-keyed equal o b r (s ∷ t) e a =
 pub tally-own : (b : List ℕ) (r : ResourceId) (m : Map ResourceId Queue) → text b ≡ r → Cut r m → tallied true b (Flat m) ≡ length (queue-in r m)
 tally-own b r m e C =
     let q : Queue = queue-in r m in
-    let l : length (Rows r q) ≡ length q = length-rows (Slot r) q in
+    let l : length (Rows r q) ≡ length q = length-map (Slot r) q in
     let x : tallied true b (C .pre) ≡ length (C .pre) * 0 = tally-keyed true Less b r (C .pre) e (C .low) in
     let y : tallied true b (Rows r q) ≡ length (Rows r q) * 1 = tally-keyed true Equal b r (Rows r q) e (rows-keyed Equal r r q (name-order r r ∙ ap flipped (orders.by-name-self r))) in
     let z : tallied true b (C .post) ≡ length (C .post) * 0 = tally-keyed true Greater b r (C .post) e (C .high) in
@@ -196,7 +195,7 @@ tally-before b r m e C =
 pub flat-count : (m : Map ResourceId Queue) → length (Flat m) ≡ sum (map length (values m))
 unfolding edit-slots sum map values
 flat-count [] = refl
-flat-count (e ∷ m) = length-append (Rows (e .0) (e .1)) (Flat m) ∙ ap₂ _+_ (length-rows (Slot (e .0)) (e .1)) (flat-count m)
+flat-count (e ∷ m) = length-append (Rows (e .0) (e .1)) (Flat m) ∙ ap₂ _+_ (length-map (Slot (e .0)) (e .1)) (flat-count m)
 
 -- ---- a queue in the place of another fits if its entries do
 

@@ -6,6 +6,7 @@ use mathlib.Core.List.{List, [], _∷_, _++_, append-nil}
 use mathlib.Core.Bool.{Bool, true, false}
 use lib.ListN.{length, take, drop, getD, set, length-append, length-replicate, replicate-append-replicate, drop-of-length-le}
 use Rattle.format.specs.Format.{option, list, stamp, bool, via, below}
+use Rattle.format.proofs.SizeLaws.{bool-within}
 use Rattle.spans.specs.Bytes.{zeros}
 use Rattle.tables.specs.Table.{Table, flat, Lens, offset}
 use Rattle.tables.proofs.Laws as tables
@@ -21,9 +22,10 @@ use Rattle.model.specs.Limits.{document01}
 use Rattle.model.specs.Formats.{resourceId, shortText, operationF, roleF, conflictsF, refusalsF}
 use Rattle.state.specs.Layout.{padded, field, name-slot, pending-slot}
 use Rattle.state.specs.Fits.{PendingFits}
-use Rattle.state.proofs.Widths.{bool-within, text-33, time-within, operation-within, role-within, absorbed-within}
+use Rattle.state.proofs.Widths.{text-33, time-within, operation-within, role-within, absorbed-within}
 use Rattle.state.proofs.Padded.{length-padded, length-field, length-name}
 use Rattle.state.proofs.Regions.{pending-long}
+use Rattle.state.proofs.Fresh.{no-flag}
 use Rattle.waiting.specs.Queues.{planned, renamed}
 use Rattle.waiting.specs.Slots.{new-fields, more-fields}
 use Rattle.waiting.specs.Entries.{PlanBytes, EditBytes, IsEdit, FoldBytes}
@@ -204,10 +206,6 @@ no-refusal : field 1024 refusalsF [] ≡ zeros 1024
 unfolding refusalsF list
 no-refusal = empty-list 1023
 
-not-collided : field 1 bool false ≡ zeros 1
-unfolding bool via below
-not-collided = empty-list 0
-
 none-absorbed : field 265 (list 8 shortText) [] ≡ zeros 265
 unfolding list
 none-absorbed = empty-list 264
@@ -230,7 +228,7 @@ new-slot r e b id operation role expiry k n B =
     let a5 : padded 9 expiry ≡ field 9 (option stamp) (e .expires-at) = ap (padded 9) (B .expires-is) in
     five (padded 33 b) (padded 33 id) (padded 1469 operation) (padded 34 role) (padded 9 expiry)
     (ap length a1 ∙ length-name r k) (ap length a2 ∙ length-field text-33 (e .id) (B .id-ok)) (ap length a3 ∙ length-field operation-within (e .operation) (B .operation-ok)) (ap length a4 ∙ length-field role-within (e .role) (B .role-ok))
-    ∙ joined a1 a2 a3 a4 a5 (sym no-conflict) (sym no-refusal) (sym not-collided) (sym none-absorbed)
+    ∙ joined a1 a2 a3 a4 a5 (sym no-conflict) (sym no-refusal) (sym no-flag) (sym none-absorbed)
     ∙ sym (slot-is r (new-pending e))
   where
     joined : {a b c d e f g h i a′ b′ c′ d′ e′ f′ g′ h′ i′ : List ℕ} → a ≡ a′ → b ≡ b′ → c ≡ c′ → d ≡ d′ → e ≡ e′ → f ≡ f′ → g ≡ g′ → h ≡ h′ → i ≡ i′
@@ -256,10 +254,10 @@ pub edit-long : (r : ResourceId) (id operation role expiry : List ℕ) → IsEdi
 edit-long r id operation role expiry I =
     let e = I .edit in
     let B = I .is in (
-      subst (λ (x : List ℕ). length x ≤ 33) (sym (B .id-is)) (text-33 .most (e .id) (B .id-ok)),
-      subst (λ (x : List ℕ). length x ≤ 1469) (sym (B .operation-is)) (operation-within .most (e .operation) (B .operation-ok)),
-      subst (λ (x : List ℕ). length x ≤ 34) (sym (B .role-is)) (role-within .most (e .role) (B .role-ok)),
-      subst (λ (x : List ℕ). length x ≤ 9) (sym (B .expires-is)) (time-within .most (e .expires-at) (B .expires-ok)),
+      subst (λ (x : List ℕ). length x ≤ 33) (sym (B .id-is)) (text-33 .bytes (e .id) (B .id-ok)),
+      subst (λ (x : List ℕ). length x ≤ 1469) (sym (B .operation-is)) (operation-within .bytes (e .operation) (B .operation-ok)),
+      subst (λ (x : List ℕ). length x ≤ 34) (sym (B .role-is)) (role-within .bytes (e .role) (B .role-ok)),
+      subst (λ (x : List ℕ). length x ≤ 9) (sym (B .expires-is)) (time-within .bytes (e .expires-at) (B .expires-ok)),
     )
 
 -- ---- an edit folded into an entry
@@ -295,7 +293,7 @@ pub ids-room : (r : ResourceId) (p : Pending) (o : Operation) (e : Edit) (operat
     → suc (length (Ids (p .absorbed))) + length id ≤ 265
 unfolding absorb document01 list
 ids-room r p o e operation expiry id ok B l =
-    let f : length (list 8 shortText .enc (p .absorbed ++ (e .id ∷ []))) ≤ 265 = absorbed-within document01 .most (p .absorbed ++ (e .id ∷ [])) (absorbed-fits r p o e operation expiry id ok B l .absorbed) in
+    let f : length (list 8 shortText .enc (p .absorbed ++ (e .id ∷ []))) ≤ 265 = absorbed-within document01 .bytes (p .absorbed ++ (e .id ∷ [])) (absorbed-fits r p o e operation expiry id ok B l .absorbed) in
     let a : length (Ids (p .absorbed ++ (e .id ∷ []))) ≡ length (Ids (p .absorbed)) + length (shortText .enc (e .id)) = ap length (ids-more (p .absorbed) (e .id)) ∙ length-append (Ids (p .absorbed)) (shortText .enc (e .id)) in
     let b : length id ≡ length (shortText .enc (e .id)) = ap length (B .id-is) in
     omega arith

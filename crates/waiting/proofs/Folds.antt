@@ -46,7 +46,7 @@ ids-short [] a = omega arith
 ids-short (x ∷ ids) a =
     let h : length (Ids ids) ≤ length ids * 33 = ids-short ids (a .1) in
     let l : length (shortText .enc x ++ Ids ids) ≡ length (shortText .enc x) + length (Ids ids) = length-append (shortText .enc x) (Ids ids) in
-    let n : length (shortText .enc x) ≤ 33 = text-33 .most x (a .0) in
+    let n : length (shortText .enc x) ≤ 33 = text-33 .bytes x (a .0) in
     let m : suc (length ids) * 33 ≡ length ids * 33 + 33 = suc-mul (length ids) 33 in
     omega arith
 

@@ -1,16 +1,16 @@
 -- The resources that have a queue, read off the slots one queue after the other. Assumes nothing.
-use Prim.Native.Nat.{ℕ, zero, suc, _+_, _-_, _*_, _≤_, _<_, Ordering·lt, Ordering·gt}
-use native.Mathlib.Nat.{add-zero, suc-mul, zero-mul, not-suc-le-zero, le-of-suc-le-suc}
+use Prim.Native.Nat.{ℕ, suc, _+_, _-_, _*_, _≤_, _<_, Ordering·gt}
+use native.Mathlib.Nat.{add-zero}
 use native.Mathlib.Omega.{arith}
 use mathlib.Core.Path.{_≡_, refl, sym, ap, ap₂, _∙_, subst}
 use mathlib.Core.List.{List, [], _∷_, _++_, append-assoc, append-nil}
 use mathlib.Core.Option.{some}
-use mathlib.Core.Bool.{true, false}
 use lib.ListN.{length, take, drop, getD, length-append}
 use lib.Seq.{take-at, drop-append-add, getD-append-add, take-take}
 use lib.Dec.{T}
 use Rattle.format.specs.Format.{All}
 use Rattle.spans.specs.Bytes.{zeros}
+use Rattle.spans.proofs.Laws.{drop-zeros}
 use Rattle.tables.specs.Table.{Table, flat, text}
 use Rattle.tables.proofs.Laws as tables
 use Rattle.model.specs.Seam.{ResourceId}
@@ -21,32 +21,26 @@ use Rattle.model.specs.Machine.{match_none:_some:_}
 use Rattle.model.specs.Formats.{resourceId}
 use Rattle.model.specs.WellFormed.{rising}
 use Rattle.model.proofs.Tables as orders
+use Rattle.model.proofs.Fitting.{length-map, length-keys, all-keys}
 use Rattle.state.specs.Layout.{padded, name-slot, pending-slot, edit-slots}
 use Rattle.state.specs.Fits.{QueueFits}
 use Rattle.state.specs.Contract.{Keeps, HasState, Reads}
 use Rattle.state.specs.Values.{name-of, Named}
-use Rattle.state.proofs.Rows.{length-rows}
 use Rattle.state.proofs.Padded.{length-name, length-padded, text-name-only}
+use Rattle.state.proofs.Names.{names-long}
+use Rattle.state.proofs.Names as names
 use Rattle.waiting.specs.Queues.{queue-in, queue}
 use Rattle.waiting.specs.Entries.{ListsResources}
 use Rattle.waiting.proofs.Cuts.{Slot, Rows, Flat}
 use Rattle.waiting.proofs.Splices as splices
-use Rattle.waiting.proofs.Writes.{drop-zeros}
 
 -- ---- a map in two parts
-
-first-below : (k : ResourceId) (done : Map ResourceId Queue) (e : ResourceId × Queue) (rest : Map ResourceId Queue) → T (rising by-name (k ∷ keys (done ++ (e ∷ rest)))) → by-name k (e .0) ≡ Ordering·lt
-unfolding keys map rising
-first-below k [] e rest t = orders.is-lt (by-name k (e .0)) (orders.and-left (by (by-name k (e .0)) true false false) _ t)
-first-below k (d ∷ done) e rest t =
-    let l : by-name k (d .0) ≡ Ordering·lt = orders.is-lt (by-name k (d .0)) (orders.and-left (by (by-name k (d .0)) true false false) _ t) in
-    first-below k done e rest (orders.rising-skip by-name orders.name-order k (d .0) (done ++ (e ∷ rest)) l (orders.and-right (by (by-name k (d .0)) true false false) _ t))
 
 queue-there : (done : Map ResourceId Queue) (e : ResourceId × Queue) (rest : Map ResourceId Queue) → T (rising by-name (keys (done ++ (e ∷ rest)))) → queue-in (e .0) (done ++ (e ∷ rest)) ≡ e .1
 unfolding queue-in get match_none:_some:_ by keys map
 queue-there [] e rest t = rw (orders.by-name-self (e .0))
 queue-there (d ∷ done) e rest t =
-    let g : by-name (e .0) (d .0) ≡ Ordering·gt = orders.by-name-turned (d .0) (e .0) ∙ ap orders.turned (first-below (d .0) done e rest t) in
+    let g : by-name (e .0) (d .0) ≡ Ordering·gt = orders.by-name-turned (d .0) (e .0) ∙ ap orders.turned (orders.first-below by-name orders.name-order (d .0) done e rest t) in
     rw g (queue-there done e rest (orders.rising-tail by-name orders.name-order (d .0) (done ++ (e ∷ rest)) t))
 
 flat-two : (a b : Map ResourceId Queue) → Flat (a ++ b) ≡ Flat a ++ Flat b
@@ -59,6 +53,12 @@ unfolding keys map
 keys-two [] b = refl
 keys-two (e ∷ a) b = ap (λ (t : Table). name-slot (e .0) ∷ t) (keys-two a b)
 
+pub keys-ok : (m : Map ResourceId Queue) → All (QueueFits document01) m → All (resourceId .Ok) (keys m)
+keys-ok m a = all-keys (QueueFits document01) (resourceId .Ok) (λ e k. k .key) m a
+
+keys-long : (m : Map ResourceId Queue) → All (QueueFits document01) m → length (flat (map name-slot (keys m))) ≡ length m * 33
+keys-long m a = names-long (keys m) (keys-ok m a) ∙ ap (λ (n : ℕ). n * 33) (length-keys m)
+
 -- no queue is empty
 few-keys : (m : Map ResourceId Queue) → All (QueueFits document01) m → length m ≤ length (Flat m)
 unfolding edit-slots
@@ -66,18 +66,8 @@ few-keys [] a = omega arith
 few-keys (e ∷ m) a =
     let h : length m ≤ length (Flat m) = few-keys m (a .1) in
     let l : length (Rows (e .0) (e .1) ++ Flat m) ≡ length (Rows (e .0) (e .1)) + length (Flat m) = length-append (Rows (e .0) (e .1)) (Flat m) in
-    let n : length (Rows (e .0) (e .1)) ≡ length (e .1) = length-rows (Slot (e .0)) (e .1) in
+    let n : length (Rows (e .0) (e .1)) ≡ length (e .1) = length-map (Slot (e .0)) (e .1) in
     let s : 0 < length (e .1) = a .0 .some in
-    omega arith
-
-keys-long : (m : Map ResourceId Queue) → All (QueueFits document01) m → length (flat (map name-slot (keys m))) ≡ length m * 33
-unfolding keys map
-keys-long [] a = sym (zero-mul 33)
-keys-long (e ∷ m) a =
-    let l : length (name-slot (e .0) ++ flat (map name-slot (keys m))) ≡ length (name-slot (e .0)) + length (flat (map name-slot (keys m))) = length-append (name-slot (e .0)) (flat (map name-slot (keys m))) in
-    let n : length (name-slot (e .0)) ≡ 33 = length-name (e .0) (a .0 .key) in
-    let h : length (flat (map name-slot (keys m))) ≡ length m * 33 = keys-long m (a .1) in
-    let s : suc (length m) * 33 ≡ length m * 33 + 33 = suc-mul (length m) 33 in
     omega arith
 
 all-two : (a b : Map ResourceId Queue) → All (QueueFits document01) (a ++ b) → All (QueueFits document01) a × All (QueueFits document01) b
@@ -150,7 +140,7 @@ listed-here : (i : ℕ) (done : Map ResourceId Queue) (x : ResourceId × Queue) 
 unfolding edit-slots
 listed-here i done x e =
     let a : length (Flat done ++ (Rows (x .0) (x .1) ++ [])) ≡ length (Flat done) + length (Rows (x .0) (x .1) ++ []) = length-append (Flat done) (Rows (x .0) (x .1) ++ []) in
-    let b : length (Rows (x .0) (x .1) ++ []) ≡ length (x .1) = ap length (append-nil (Rows (x .0) (x .1))) ∙ length-rows (Slot (x .0)) (x .1) in
+    let b : length (Rows (x .0) (x .1) ++ []) ≡ length (x .1) = ap length (append-nil (Rows (x .0) (x .1))) ∙ length-map (Slot (x .0)) (x .1) in
     sym (ap length (flat-two done (x ∷ [])) ∙ omega arith)
 
 listed-number : (count : ℕ) (done : Map ResourceId Queue) (x : ResourceId × Queue) → count ≡ length done → count + 1 ≡ length (done ++ (x ∷ []))
@@ -180,7 +170,7 @@ turn-of {s} {w} h i count bytes done x rest e l here number names =
     let p : ℕ = 20002 + (1 + i * 5940) in
     let n1 : length (Flat (s .edits)) ≡ length (Flat done) + length (Rows (x .0) (x .1) ++ Flat rest) = ap length F ∙ length-append (Flat done) (Rows (x .0) (x .1) ++ Flat rest) in
     let n2 : length (Rows (x .0) (x .1) ++ Flat rest) ≡ length (Rows (x .0) (x .1)) + length (Flat rest) = length-append (Rows (x .0) (x .1)) (Flat rest) in
-    let n3 : length (Rows (x .0) (x .1)) ≡ length (x .1) = length-rows (Slot (x .0)) (x .1) in
+    let n3 : length (Rows (x .0) (x .1)) ≡ length (x .1) = length-map (Slot (x .0)) (x .1) in
     let n4 : length done ≤ length (Flat done) = few-keys done ad in
     let kl : length (flat (map name-slot (keys done))) ≡ length done * 33 = keys-long done ad in
     let cl : count * 33 ≡ length done * 33 = ap (λ (n : ℕ). n * 33) number in
@@ -243,11 +233,6 @@ key-long i count bytes b R q = ap length (q ∙ R .key) ∙ length-name (R .e .0
 
 -- ---- the names listed
 
-pub keys-ok : (m : Map ResourceId Queue) → All (QueueFits document01) m → All (resourceId .Ok) (keys m)
-unfolding keys map
-keys-ok [] a = tt
-keys-ok (e ∷ m) a = (a .0 .key, keys-ok m (a .1))
-
 pub lists-long : (w : List ℕ) (count : ℕ) (bytes : List ℕ) → HasState w → ListsResources w count bytes → (length bytes ≡ 198) × (count ≤ 6)
 unfolding document01
 lists-long w count bytes H L =
@@ -260,26 +245,6 @@ lists-long w count bytes H L =
     let c : count ≡ length (H .state .edits) = x .0 in
     (ap length (x .1) ∙ length-padded 198 (flat (map name-slot (keys m))) (omega arith), omega arith)
 
-name-there : (ks : List ResourceId) (k : ℕ) (tail : List ℕ) → All (resourceId .Ok) ks → k < length ks → take 33 (drop (k * 33) (flat (map name-slot ks) ++ tail)) ≡ name-slot (getD ks k [])
-unfolding map
-name-there [] k tail a h = absurd (not-suc-le-zero h)
-name-there (x ∷ ks) zero tail a h =
-    ap (λ (n : ℕ). take 33 (drop n ((name-slot x ++ flat (map name-slot ks)) ++ tail))) (zero-mul 33) ∙ ap (take 33) (append-assoc (name-slot x) (flat (map name-slot ks)) tail) ∙ take-at (name-slot x) (flat (map name-slot ks) ++ tail) 33 (length-name x (a .0))
-name-there (x ∷ ks) (suc k) tail a h =
-    let l : length (name-slot x) ≡ 33 = length-name x (a .0) in
-    let n : suc k * 33 ≡ length (name-slot x) + k * 33 = let s : suc k * 33 ≡ k * 33 + 33 = suc-mul k 33 in omega arith in
-    ap₂ (λ (i : ℕ) (y : List ℕ). take 33 (drop i y)) n (append-assoc (name-slot x) (flat (map name-slot ks)) tail) ∙ ap (take 33) (drop-append-add (name-slot x) (flat (map name-slot ks) ++ tail) (k * 33))
-    ∙ name-there ks k tail (a .1) (le-of-suc-le-suc h)
-
-key-at : (ks : List ResourceId) (k : ℕ) → All (resourceId .Ok) ks → k < length ks → resourceId .Ok (getD ks k [])
-key-at [] k a h = absurd (not-suc-le-zero h)
-key-at (x ∷ ks) zero a h = a .0
-key-at (x ∷ ks) (suc k) a h = key-at ks k (a .1) (le-of-suc-le-suc h)
-
 pub name-listed : (bytes b : List ℕ) (k : ℕ) → b ≡ take 33 (drop (k * 33) bytes) → (ks : List ResourceId) → All (resourceId .Ok) ks → bytes ≡ padded 198 (flat (map name-slot ks)) → k < length ks
     → Named b × (name-of b ≡ getD ks k [])
-unfolding padded
-name-listed bytes b k q ks a e h =
-    let f : b ≡ name-slot (getD ks k []) = q ∙ ap (λ (x : List ℕ). take 33 (drop (k * 33) x)) e ∙ name-there ks k (zeros (198 - length (flat (map name-slot ks)))) a h in
-    let n : name-of b ≡ getD ks k [] = ap text f ∙ text-name-only (getD ks k []) in
-    (record { is = f ∙ ap name-slot (sym n); ok = subst (resourceId .Ok) (sym n) (key-at ks k a h) }, n)
+name-listed bytes b k q ks a e h = let x = names.name-listed 198 bytes b k q ks a e h in (x .1, ap text (x .0) ∙ text-name-only (getD ks k []))

@@ -11,7 +11,6 @@ use lib.Seq.{take-all, set-at, getD-at, length-take-le}
 use lib.Dec.{leb}
 use borrow.Author.Tests.{le-leb, lt-leb}
 use Rattle.spans.specs.Bytes.{zeros}
-use Rattle.state.proofs.Rows.{length-rows}
 use Rattle.model.specs.Maps.{map}
 use Rattle.format.specs.Format.{list}
 use Rattle.spans.specs.Compare.{order}
@@ -31,6 +30,7 @@ use Rattle.model.specs.Formats.{resourceId, conflictsF, refusalsF}
 use Rattle.model.specs.Sync.{as-collided, without-plan, change-front, new-pending}
 use Rattle.model.specs.Edits.{Edit}
 use Rattle.model.proofs.FitQueues.{no-conflicts, no-refusals}
+use Rattle.model.proofs.Fitting.{length-map}
 use Rattle.state.specs.Layout.{padded, name-slot}
 use Rattle.state.specs.Fits.{PendingFits}
 use Rattle.state.specs.Contract.{Keeps, HasState, Reads, Edits, Tries}
@@ -267,7 +267,7 @@ more-count {s} r p h =
     let q : Queue = queue r s in
     let a : length (C .pre ++ (Rows r (q ++ (p ∷ [])) ++ C .post)) ≡ length (C .pre) + length (Rows r (q ++ (p ∷ [])) ++ C .post) = length-append (C .pre) (Rows r (q ++ (p ∷ [])) ++ C .post) in
     let b : length (Rows r (q ++ (p ∷ [])) ++ C .post) ≡ length (Rows r (q ++ (p ∷ []))) + length (C .post) = length-append (Rows r (q ++ (p ∷ []))) (C .post) in
-    let d : length (Rows r (q ++ (p ∷ []))) ≡ length (q ++ (p ∷ [])) = length-rows (Slot r) (q ++ (p ∷ [])) in
+    let d : length (Rows r (q ++ (p ∷ []))) ≡ length (q ++ (p ∷ [])) = length-map (Slot r) (q ++ (p ∷ [])) in
     let e : length (q ++ (p ∷ [])) ≡ length q + 1 = length-append q (p ∷ []) in
     let f = splices.rows-count r h in
     let g : length (C .pre) ≡ below r (s .edits) = C .first in

@@ -6,14 +6,16 @@ use mathlib.Core.Path.{_≡_, refl, sym, ap, ap₂, _∙_, subst}
 use mathlib.Core.List.{List, [], _∷_, _++_, append-assoc}
 use mathlib.Core.Option.{Option, none, some, Option·some-injective, Option·none-ne-some}
 use lib.ListN.{length, take, drop, getD, set, length-append, length-drop, take-append-drop, List·getD-append}
-use lib.Seq.{length-take-le, take-at, drop-at, take-append-le, drop-append-le, take-append-add, drop-append-add, set-append-left, getD-append-add, take-add, drop-drop, take-take, take-nil}
+use lib.Seq.{length-take-le, take-at, drop-at, take-append-le, drop-append-le, take-append-add, drop-append-add, set-append-left, getD-append-add, take-add, drop-drop, take-take}
 use Rattle.format.specs.Format.{All}
 use Rattle.model.specs.State.{Pending, Queue}
 use Rattle.model.specs.Maps.{map}
 use Rattle.model.specs.Machine.{match_none:_some:_}
 use Rattle.model.specs.Sync.{back, without-back}
+use Rattle.model.proofs.Fitting.{map-append}
 use Rattle.lent.specs.Lent.{part, placed}
 use Rattle.waiting.specs.Queues.{nth, without, change-at, change-last}
+use Rattle.tables.proofs.Laws.{drop-take}
 
 -- ---- a list in three parts
 
@@ -45,11 +47,6 @@ module _ {A : Type 0} (pre mid post : List A) (x : A) where
 -- ---- maps of lists
 
 module _ {A B : Type 0} (f : A → B) where
-  pub map-append : (l k : List A) → map f (l ++ k) ≡ map f l ++ map f k
-  unfolding map
-  map-append [] k = refl
-  map-append (a ∷ l) k = ap (λ (x : List B). f a ∷ x) (map-append l k)
-
   pub map-take : (n : ℕ) (l : List A) → map f (take n l) ≡ take n (map f l)
   unfolding map
   map-take zero l = refl
@@ -119,11 +116,6 @@ length-placed at len q w h k =
     let d : length (drop len (drop at w)) ≡ length (drop at w) - len = length-drop len (drop at w) in
     let e : length (drop at w) ≡ length w - at = length-drop at w in
     omega arith
-
-drop-take : (o n : ℕ) (l : List ℕ) → drop o (take (o + n) l) ≡ take n (drop o l)
-drop-take zero n l = ap (λ (k : ℕ). take k l) (zero-add n)
-drop-take (suc o) n [] = ap (λ (k : ℕ). drop (suc o) (take k [])) (suc-add o n) ∙ sym (take-nil n)
-drop-take (suc o) n (x ∷ l) = ap (λ (k : ℕ). drop (suc o) (take k (x ∷ l))) (suc-add o n) ∙ drop-take o n l
 
 -- a part of a part
 pub placed-in : (at len o n : ℕ) (y w : List ℕ) → o + n ≤ len → at + len ≤ length w → placed (at + o) n y w ≡ placed at len (placed o n y (part at len w)) w

@@ -12,11 +12,11 @@ use Rattle.model.specs.State.{Pending, Queue, SyncState}
 use Rattle.model.specs.Limits.{document01}
 use Rattle.model.specs.Machine.{match_none:_some:_}
 use Rattle.model.specs.Formats.{resourceId}
+use Rattle.model.proofs.Fitting.{length-map}
 use Rattle.state.specs.Layout.{padded, name-slot}
 use Rattle.state.specs.Fits.{PendingFits}
 use Rattle.state.specs.Contract.{HasState, Reads, Edits}
 use Rattle.state.specs.Values.{name-of, Named}
-use Rattle.state.proofs.Rows.{length-rows}
 use Rattle.waiting.specs.Queues.{put-in, below, queue, put-queue, without, renamed, joined, moved}
 use Rattle.waiting.specs.Slots.{EditsSlots, Rewrites, Opens}
 use Rattle.waiting.proofs.Cuts.{Slot, Rows, Flat}
@@ -63,7 +63,7 @@ room-left r w w′ n j H N l E =
     let d : getD w′ 20002 0 ≡ length (Flat (put-in r u (s .edits))) = splices.slots-of (E .makes s h) .count in
     let e : length (Flat (put-in r u (s .edits))) ≡ length (C .pre) + length (Rows r u ++ C .post) = ap length (C .put u) ∙ length-append (C .pre) (Rows r u ++ C .post) in
     let f : length (Rows r u ++ C .post) ≡ length (Rows r u) + length (C .post) = length-append (Rows r u) (C .post) in
-    let g : length (Rows r u) ≡ length (take j q) + length (drop (suc j) q) = length-rows (Slot r) u ∙ length-append (take j q) (drop (suc j) q) in
+    let g : length (Rows r u) ≡ length (take j q) + length (drop (suc j) q) = length-map (Slot r) u ∙ length-append (take j q) (drop (suc j) q) in
     let i : length (take j q) ≡ j = length-take-le j q (omega arith) in
     let k : length (drop (suc j) q) ≡ length q - suc j = length-drop (suc j) q in
     let m = splices.rows-count r h in

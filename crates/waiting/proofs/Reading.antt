@@ -5,7 +5,7 @@ use native.Mathlib.Omega.{arith}
 use mathlib.Core.Path.{_≡_, refl, sym, ap, ap₂, _∙_, subst}
 use mathlib.Core.List.{List, [], _∷_, _++_, append-assoc}
 use mathlib.Core.Option.{Option, none, some, Option·some-injective, Option·none-ne-some}
-use mathlib.Core.Bool.{Bool, true, false, _&&_}
+use mathlib.Core.Bool.{Bool, true, false}
 use lib.ListN.{length, take, drop, getD, length-append, length-drop, take-append-drop}
 use lib.Seq.{getD-take, getD-drop, take-at, drop-at, take-all, drop-drop}
 use lib.IntN.{ℤ, pos, negsuc}
@@ -14,9 +14,11 @@ use lib.Dec.{eqb}
 use mir.Syntax.{w64}
 use mir.Val.{ofZ, toZ}
 use mir.Facts.{fits-ofZ, toZ-ofZ}
-use Rattle.format.specs.Format.{All, option, list, stamp, bool, via, below as below-format, enum, _∣_, nothing, text, bigEndian, isTime}
+use Rattle.format.specs.Format.{All, option, list, stamp, bool, via, below as below-format, enum, _∣_, text, bigEndian, isTime}
 use Rattle.format.proofs.FormatLaws.{time-fits}
+use Rattle.format.proofs.SizeLaws.{length-digits}
 use Rattle.spans.specs.Bytes.{zeros}
+use Rattle.spans.proofs.Laws.{drop-zeros}
 use Rattle.tables.specs.Table.{flat, offset}
 use Rattle.tables.proofs.Laws as tables
 use Rattle.numbers.specs.Big.{fromBe}
@@ -35,7 +37,8 @@ use Rattle.state.specs.Contract.{Keeps, HasState, Reads}
 use Rattle.state.specs.Values.{number-in, bits-in}
 use Rattle.state.specs.declared.Numbered.{Numbered}
 use Rattle.state.proofs.Orders.{from-digits}
-use Rattle.state.proofs.Widths.{length-digits}
+use Rattle.state.proofs.Ops.{time-field, time-ok, no-bits}
+use Rattle.state.proofs.Fresh.{no-time}
 use Rattle.waiting.specs.Queues.{below, queue, nth}
 use Rattle.waiting.specs.Entries.{EntryAt}
 use Rattle.waiting.specs.Texts.{texts-end}
@@ -44,7 +47,6 @@ use Rattle.waiting.proofs.Cuts.{Slot, Flat}
 use Rattle.waiting.proofs.Lists as lists
 use Rattle.waiting.proofs.Fields as fields
 use Rattle.waiting.proofs.Splices as splices
-use Rattle.waiting.proofs.Writes.{drop-zeros}
 use Rattle.waiting.proofs.Texts.{Ids}
 use Rattle.waiting.proofs.Laws as laws
 use Rattle.waiting.proofs.Folds as folds
@@ -170,33 +172,12 @@ number-some r w v j k R l = entry-cases r w 5675 255 v j (1 + v) ids-number R (�
 
 -- ---- the expiry
 
-both-inv : (a b : Bool) → (a && b) ≡ true → (a ≡ true) × (b ≡ true)
-both-inv true b e = (refl, e)
-both-inv false b e = absurd (tables.false-true e)
-
-time-field : (z : ℤ) → field 9 (option stamp) (some z) ≡ 1 ∷ bigEndian 8 (ofZ w64 z)
-unfolding padded stamp option via enum _∣_
-time-field z = refl
-
-no-time : field 9 (option stamp) none ≡ zeros 9
-unfolding padded option via enum _∣_ nothing
-no-time = refl
-
-time-ok : (x : Option ℤ) (z : ℤ) → option stamp .Ok x → x ≡ some z → isTime z ≡ true
-unfolding option via enum _∣_ stamp
-time-ok none z ok e = absurd (Option·none-ne-some z e)
-time-ok (some y) z ok e = subst (λ (u : ℤ). isTime u ≡ true) (Option·some-injective y z e) ok
-
 expiry-byte : (r : ResourceId) (p : Pending) → resourceId .Ok r → PendingFits document01 r p → getD (Slot r p) 1569 0 ≡ getD (field 9 (option stamp) (p .edit .expires-at)) 0 0
 expiry-byte r p k ok = first-of r p k ok 4 (omega arith) (omega arith)
 
 pub expiry-none : (r : ResourceId) (w : List ℕ) (v j : ℕ) → resourceId .Ok r → Reads (λ s. entry-byte r 1569 0 (nth j (queue r s))) w v → v ≡ 0 → Reads (λ s. bits-in (expiry-of (nth j (queue r s)))) w none
 unfolding expiry-of
-expiry-none r w v j k R l = entry-cases r w 1569 0 v j none (λ x. bits-in (expiry-of x)) R (λ e. refl) (λ s h p g ok e. go (p .edit .expires-at) (sym (e ∙ expiry-byte r p k ok) ∙ l))
-  where
-    go : (x : Option ℤ) → getD (field 9 (option stamp) x) 0 0 ≡ 0 → none ≡ bits-in x
-    go none e = refl
-    go (some z) e = absurd (let q : _≡_ {A = ℕ} 1 0 = ap (λ (y : List ℕ). getD y 0 0) (sym (time-field z)) ∙ e in omega arith)
+expiry-none r w v j k R l = entry-cases r w 1569 0 v j none (λ x. bits-in (expiry-of x)) R (λ e. refl) (λ s h p g ok e. no-bits (p .edit .expires-at) (sym (e ∙ expiry-byte r p k ok) ∙ l))
 
 nth-below : (j : ℕ) (q : Queue) (p : Pending) → nth j q ≡ some p → j < length q
 unfolding nth
@@ -324,7 +305,7 @@ nth-id-below k [] id e = absurd (Option·none-ne-some id e)
 nth-id-below zero (x ∷ ids) id e = omega arith
 nth-id-below (suc k) (x ∷ ids) id e = let h : k < length ids = nth-id-below k ids id e in omega arith
 
-nth-id-some : (k : ℕ) (ids : List Text) → k < length ids → (id : Text) × (nth-id k ids ≡ some id)
+pub nth-id-some : (k : ℕ) (ids : List Text) → k < length ids → (id : Text) × (nth-id k ids ≡ some id)
 unfolding nth-id
 nth-id-some k [] h = absurd (not-suc-le-zero h)
 nth-id-some zero (x ∷ ids) h = (x, refl)

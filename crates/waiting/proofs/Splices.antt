@@ -18,11 +18,10 @@ use Rattle.model.specs.State.{Pending, Queue, SyncState}
 use Rattle.model.specs.Limits.{document01}
 use Rattle.model.specs.Maps.{map}
 use Rattle.model.specs.Formats.{resourceId}
-use Rattle.model.proofs.Fitting.{all-append}
+use Rattle.model.proofs.Fitting.{all-append, length-map, map-append}
 use Rattle.state.specs.Fits.{PendingFits}
 use Rattle.state.specs.Contract.{Keeps, HasState, Reads}
 use Rattle.state.proofs.Parts as parts
-use Rattle.state.proofs.Rows.{length-rows}
 use Rattle.state.proofs.Regions.{edits-sized}
 use Rattle.waiting.specs.Queues.{put-in, below, queue, put-queue, all-entries, nth, without, change-at}
 use Rattle.waiting.specs.Slots.{Slots, HasSlots, ReadsSlots, tallied, inserted}
@@ -137,14 +136,14 @@ module _ {s : SyncState} {w : List ℕ} (r : ResourceId) (h : Keeps s w) where
   rows-count =
       let C = cut-of r h in
       let q : Queue = queue r s in
-      ap length (C .is) ∙ length-append (C .pre) (Rows r q ++ C .post) ∙ ap₂ _+_ (C .first) (length-append (Rows r q) (C .post) ∙ ap (λ (n : ℕ). n + length (C .post)) (length-rows (Slot r) q))
+      ap length (C .is) ∙ length-append (C .pre) (Rows r q ++ C .post) ∙ ap₂ _+_ (C .first) (length-append (Rows r q) (C .post) ∙ ap (λ (n : ℕ). n + length (C .post)) (length-map (Slot r) q))
 
   -- the slot of entry j
   pub row-of : (j : ℕ) (p : Pending) → nth j (queue r s) ≡ some p → j < length (queue r s) → getD (Flat (s .edits)) (below r (s .edits) + j) [] ≡ Slot r p
   row-of j p e l =
       let C = cut-of r h in
       let q : Queue = queue r s in
-      let n : length (Rows r q) ≡ length q = length-rows (Slot r) q in
+      let n : length (Rows r q) ≡ length q = length-map (Slot r) q in
       ap₂ (λ (t : Table) (i : ℕ). getD t (i + j) []) (C .is) (sym (C .first)) ∙ lists.at-mid (C .pre) (Rows r q) (C .post) j [] (omega arith) ∙ lists.nth-row (Slot r) j q p e
 
 -- ---- what is done to a queue
@@ -174,7 +173,7 @@ module _ {s : SyncState} {w : List ℕ} (r : ResourceId) (k : resourceId .Ok r) 
   removed j l S =
       let C = cut-of r h in
       let q : Queue = queue r s in
-      let n : length (Rows r q) ≡ length q = length-rows (Slot r) q in
+      let n : length (Rows r q) ≡ length q = length-map (Slot r) q in
       let P : Pending → Type 0 = PendingFits document01 r in
       spliced r (without j q) (without-slot (below r (s .edits) + j) (Flat (s .edits))) w′ h k (all-append P (take j q) (drop (suc j) q) (all-take P j q (C .own)) (all-drop P (suc j) q (C .own)))
       (ap₂ (λ (t : Table) (i : ℕ). take (i + j) t ++ drop (suc (i + j)) t) (C .is) (sym (C .first)) ∙ lists.out-of (C .pre) (Rows r q) (C .post) j (omega arith)
@@ -185,7 +184,7 @@ module _ {s : SyncState} {w : List ℕ} (r : ResourceId) (k : resourceId .Ok r) 
   changed j g p e l f S =
       let C = cut-of r h in
       let q : Queue = queue r s in
-      let n : length (Rows r q) ≡ length q = length-rows (Slot r) q in
+      let n : length (Rows r q) ≡ length q = length-map (Slot r) q in
       spliced r (change-at j g q) (set (Flat (s .edits)) (below r (s .edits) + j) (Slot r (g p))) w′ h k (all-change (PendingFits document01 r) g j q p e f (C .own))
       (ap₂ (λ (t : Table) (i : ℕ). set t (i + j) (Slot r (g p))) (C .is) (sym (C .first)) ∙ lists.set-in (C .pre) (Rows r q) (C .post) j (Slot r (g p)) (omega arith)
       ∙ ap (λ (t : Table). C .pre ++ (t ++ C .post)) (sym (lists.map-change (Slot r) g j q p e))) S
@@ -196,8 +195,8 @@ module _ {s : SyncState} {w : List ℕ} (r : ResourceId) (k : resourceId .Ok r) 
   appended p f S =
       let C = cut-of r h in
       let q : Queue = queue r s in
-      let n : length q ≡ length (Rows r q) = sym (length-rows (Slot r) q) in
+      let n : length q ≡ length (Rows r q) = sym (length-map (Slot r) q) in
       spliced r (q ++ p ∷ []) (inserted (below r (s .edits) + length q) (Slot r p) (Flat (s .edits))) w′ h k (all-append (PendingFits document01 r) q (p ∷ []) (C .own) (f, tt))
       (ap (λ (t : Table). inserted (below r (s .edits) + length q) (Slot r p) t) (C .is) ∙ ap₂ (λ (i m : ℕ). inserted (i + m) (Slot r p) (C .pre ++ (Rows r q ++ C .post))) (sym (C .first)) n
       ∙ lists.behind (C .pre) (Rows r q) (C .post) (Slot r p)
-      ∙ ap (λ (t : Table). C .pre ++ (t ++ C .post)) (sym (lists.map-append (Slot r) q (p ∷ [])))) S
+      ∙ ap (λ (t : Table). C .pre ++ (t ++ C .post)) (sym (map-append (Slot r) q (p ∷ [])))) S

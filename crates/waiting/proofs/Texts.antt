@@ -9,13 +9,13 @@ use lib.Seq.{take-at, drop-at, drop-drop, getD-drop}
 use borrow.Author.Tests.{lt-ltb, le-ltb}
 use Rattle.format.specs.Format.{concatMap, list, text}
 use Rattle.spans.specs.Bytes.{zeros}
+use Rattle.spans.proofs.Laws.{drop-zeros}
 use Rattle.lent.specs.Lent.{placed}
 use Rattle.model.specs.Event.{Text}
 use Rattle.model.specs.Maps.{if_then_else_}
 use Rattle.model.specs.Formats.{shortText}
 use Rattle.state.specs.Layout.{padded, field}
 use Rattle.waiting.specs.Texts.{text-end, texts-end}
-use Rattle.waiting.proofs.Writes.{drop-zeros}
 
 pub text-past : (s : List ℕ) (at : ℕ) → length s ≤ at → at ≡ text-end s at
 unfolding text-end if_then_else_

@@ -4,9 +4,10 @@ use native.Mathlib.Nat.{mul-le-mul-right}
 use native.Mathlib.Omega.{arith}
 use mathlib.Core.Path.{_≡_, sym, ap, ap₂, _∙_, subst}
 use mathlib.Core.List.{List, [], _∷_, _++_, append-assoc}
-use lib.ListN.{length, take, drop, getD, set, length-append, length-set, length-drop, length-replicate, replicate-append-replicate, take-append-drop}
+use lib.ListN.{length, take, drop, getD, set, length-append, length-set, length-drop, length-replicate, take-append-drop}
 use lib.Seq.{getD-set-same, set-set, set-split, split-at, length-take-le, take-at, drop-at, drop-drop, drop-append-le}
 use Rattle.spans.specs.Bytes.{zeros}
+use Rattle.spans.proofs.Laws.{drop-zeros}
 use Rattle.tables.specs.Table.{Table, flat, Sized, encTable, opened}
 use Rattle.tables.specs.Table.{without as without-slot}
 use Rattle.tables.proofs.Laws as tables
@@ -18,11 +19,6 @@ use Rattle.waiting.proofs.Lists as lists
 use Rattle.waiting.proofs.Splices as splices
 
 -- ---- a field: zeros, and the value over them
-
-pub drop-zeros : (k n : ℕ) → k ≤ n → drop k (zeros n) ≡ zeros (n - k)
-drop-zeros k n h =
-    let e : n ≡ k + (n - k) = omega arith in
-    ap (λ (m : ℕ). drop k (zeros m)) e ∙ ap (drop k) (sym (replicate-append-replicate k (n - k) 0)) ∙ drop-at (zeros k) (zeros (n - k)) k (length-replicate k 0)
 
 pub filled : (at width : ℕ) (w w1 w2 b : List ℕ) → at + width ≤ length w → length b ≤ width → w1 ≡ placed at width (zeros width) w
     → w2 ≡ take at w1 ++ (b ++ drop (at + length b) w1) → w2 ≡ placed at width (padded width b) w

@@ -10,6 +10,7 @@ use lib.ListN.{length, getD, length-append}
 use lib.Dec.{T, isEq}
 use Rattle.format.specs.Format.{Format, Lawful, All, _⊗_, option, list, stamp, bool, concatMap}
 use Rattle.format.proofs.FormatLaws.{pair-law, option-law, stamp-law, bool-law, list-law}
+use Rattle.format.proofs.SizeLaws.{Within, pair-within, list-within, bool-within}
 use Rattle.spans.specs.Bytes.{zeros, both}
 use Rattle.spans.specs.Compare.{order}
 use Rattle.spans.specs.declared.Order.the-variants.{Greater}
@@ -23,12 +24,13 @@ use Rattle.model.specs.Formats.{resourceId, shortText, operationF, roleF, confl
 use Rattle.model.specs.WellFormed.{rising}
 use Rattle.model.proofs.FormatsLaws.{resourceId-law, shortText-law, operationF-law, roleF-law, conflictsF-law, refusalsF-law}
 use Rattle.model.proofs.Tables.{turned, by-name-self, by-name-turned, is-lt, and-left, and-right, and-both, same-is}
+use Rattle.model.proofs.Fitting.{length-map}
 use Rattle.state.specs.Layout.{padded, field, pending-slot, edit-slots, region}
 use Rattle.state.specs.Fits.{PendingFits, QueueFits}
-use Rattle.state.proofs.Widths.{Within, pair-within, list-within, name-within, text-33, operation-within, role-within, time-within, bool-within, absorbed-within}
+use Rattle.state.proofs.Widths.{name-within, text-33, operation-within, role-within, time-within, absorbed-within}
 use Rattle.state.proofs.Padded.{length-padded, text-name}
 use Rattle.state.proofs.Orders.{flipped, name-order}
-use Rattle.state.proofs.Rows.{length-rows, sized-rows}
+use Rattle.state.proofs.Rows.{sized-rows}
 use Rattle.state.proofs.Regions.{bool-ok, pending-long, Entries, entries-of, entries, put-first, queues, entry-slot, EntryFits, edit-rows, entries-fit}
 use Rattle.frame.specs.Read.{start, skips}
 use Rattle.frame.specs.declared.Cursor.{Cursor}
@@ -109,20 +111,20 @@ fits-of v ok = (
 fits-back : (x : ResourceId × Pending) → EntryFits document01 x → entryF .Ok (fields-of x)
 unfolding entryF wide _⊗_ document01
 fits-back (r, p) (k, h) = (
-  (k, name-within .most r k),
+  (k, name-within .bytes r k),
   (
-    (h .id, text-33 .most (p .edit .id) (h .id)),
+    (h .id, text-33 .bytes (p .edit .id) (h .id)),
     (
-      (h .operation, operation-within .most (p .edit .operation) (h .operation)),
+      (h .operation, operation-within .bytes (p .edit .operation) (h .operation)),
       (
-        (h .role, role-within .most (p .edit .role) (h .role)),
+        (h .role, role-within .bytes (p .edit .role) (h .role)),
         (
-          (h .expires-at, time-within .most (p .edit .expires-at) (h .expires-at)),
+          (h .expires-at, time-within .bytes (p .edit .expires-at) (h .expires-at)),
           (
             (h .conflicts, h .conflict-bytes),
             (
               (h .refused, h .refused-bytes),
-              ((bool-ok (p .collided), bool-within .most (p .collided) (bool-ok (p .collided))), (h .absorbed, absorbed-within document01 .most (p .absorbed) (h .absorbed))),
+              ((bool-ok (p .collided), bool-within .bytes (p .collided) (bool-ok (p .collided))), (h .absorbed, absorbed-within document01 .bytes (p .absorbed) (h .absorbed))),
             ),
           ),
         ),
@@ -138,7 +140,7 @@ pub table-of : {A : Type 0} (f : Format A) (n w : ℕ) (vs : List A) → field w
 unfolding padded list encTable map
 table-of {A} f n w vs =
     let e : concatMap (f .enc) vs ≡ flat (map (f .enc) vs) = joined vs in
-    let l : length vs ≡ length (map (f .enc) vs) = sym (length-rows (f .enc) vs) in
+    let l : length vs ≡ length (map (f .enc) vs) = sym (length-map (f .enc) vs) in
     let k : w - suc (length (concatMap (f .enc) vs)) ≡ w - 1 - length (flat (map (f .enc) vs)) = let m = ap length e in omega arith in
     ap₂ (λ (x : ℕ) (y : List ℕ). x ∷ y) l (ap₂ (λ (x : List ℕ) (y : ℕ). x ++ zeros y) e k)
   where
@@ -181,16 +183,11 @@ no-more : (a b t : List ℕ) → b ≡ a ++ t → length a ≡ length b → b �
 no-more a b [] e h = e ∙ append-nil a
 no-more a b (x ∷ t) e h = absurd (let l : length b ≡ length a + suc (length t) = ap length e ∙ length-append a (x ∷ t) in omega arith)
 
-length-map : {A B : Type 0} (f : A → B) (l : List A) → length (map f l) ≡ length l
-unfolding map
-length-map f [] = refl
-length-map f (x ∷ l) = ap suc (length-map f l)
-
-wide-within : {A : Type 0} (w : ℕ) (f : Format A) → Within (wide w f) w
+wide-within : {A : Type 0} (w : ℕ) (f : Format A) → Within w (wide w f)
 unfolding wide
-wide-within w f = record { most = λ a ok. let l = length-padded w (f .enc a) (ok .1) in omega arith }
+wide-within w f = record { bytes = λ a ok. let l = length-padded w (f .enc a) (ok .1) in omega arith }
 
-entry-within : Within entryF 5940
+entry-within : Within 5940 entryF
 unfolding entryF
 entry-within =
     pair-within (wide-within 33 resourceId) (pair-within (wide-within 33 shortText) (pair-within (wide-within 1469 operationF) (pair-within (wide-within 34 roleF) (pair-within (wide-within 9 (option stamp))
@@ -218,7 +215,7 @@ slots-read b end S e =
     let w : b ≡ entriesF .enc vs = S .bytes ∙ ap (encTable 35641) (sym (rows-back (S .l))) ∙ sym (table-of entryF 6 35641 vs) in
     let t : b ≡ [] ++ (entriesF .enc vs ++ []) = w ∙ sym (append-nil (entriesF .enc vs)) in
     let small : length vs ≤ 6 = subst (λ (x : ℕ). x ≤ 6) (sym (length-map fields-of (S .l))) (S .small) in
-    let few : length (list 6 entryF .enc vs) ≤ 35641 = list-within 6 entry-within .most vs (small, all-back (S .l) (S .each)) in
+    let few : length (list 6 entryF .enc vs) ≤ 35641 = list-within 6 entry-within .bytes vs (small, all-back (S .l) (S .each)) in
     let q : skips entriesF b start ≡ record { at = 0 + length (entriesF .enc vs); ok = true } = subst (λ (x : List ℕ). skips entriesF x start ≡ record { at = 0 + length (entriesF .enc vs); ok = true }) (sym t)
     (skips-written entriesF-law [] vs [] ((small, all-back (S .l) (S .each)), few)) in
     ap (λ (x : Cursor). x .ok) (e ∙ q)
@@ -228,7 +225,7 @@ slots-are b S = ap (slotsOf 5940) (S .bytes) ∙ tables.slots-enc 5940 35641 (ma
 
 pub slots-hold : (b : List ℕ) → length b ≡ 35641 → Slots b → Holds 5940 b
 slots-hold b h S =
-    let n : getD b 0 0 ≡ length (S .l) = ap (λ (x : List ℕ). getD x 0 0) (S .bytes) ∙ tables.count-enc 35641 (map (entry-slot document01) (S .l)) ∙ length-rows (entry-slot document01) (S .l) in
+    let n : getD b 0 0 ≡ length (S .l) = ap (λ (x : List ℕ). getD x 0 0) (S .bytes) ∙ tables.count-enc 35641 (map (entry-slot document01) (S .l)) ∙ length-map (entry-slot document01) (S .l) in
     let k = S .small in
     let j : getD b 0 0 ≤ 6 = omega arith in
     let m : getD b 0 0 * 5940 ≤ 6 * 5940 = mul-le-mul-right 5940 j in
@@ -348,7 +345,7 @@ edits-in b S r e h =
     record {
       edits = m;
       fit = record {
-        small = subst (λ (n : ℕ). n ≤ 6) (sym (ap length w ∙ length-rows (entry-slot document01) (S .l))) (S .small);
+        small = subst (λ (n : ℕ). n ≤ 6) (sym (ap length w ∙ length-map (entry-slot document01) (S .l))) (S .small);
         each = queues-fit (S .l) (S .each);
         rises = rise (S .l) (sym (ap ordered (slots-are b S)) ∙ sym e ∙ h);
       };
@@ -365,7 +362,7 @@ pub slots-in : (b : List ℕ) → QueuesIn b → Slots b
 unfolding document01
 slots-in b E = record {
   l = entries (E .edits);
-  small = subst (λ (n : ℕ). n ≤ 6) (sym (ap length (edit-rows document01 (E .edits))) ∙ length-rows (entry-slot document01) (entries (E .edits))) (E .fit .small);
+  small = subst (λ (n : ℕ). n ≤ 6) (sym (ap length (edit-rows document01 (E .edits))) ∙ length-map (entry-slot document01) (entries (E .edits))) (E .fit .small);
   each = entries-fit document01 (E .edits) (E .fit .each);
   bytes = E .bytes ∙ ap (encTable 35641) (sym (edit-rows document01 (E .edits)));
 }

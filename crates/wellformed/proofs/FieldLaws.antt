@@ -10,21 +10,14 @@ use lib.Seq.{take-at, drop-at, length-take-le}
 use lib.Dec.{leb}
 use borrow.Author.Tests.{le-leb, lt-leb, leb-true, not-true, not-false}
 use Rattle.format.specs.Format.{Got, Format, Lawful, andThen}
+use Rattle.format.proofs.FormatLaws.{and-inv, then-inv}
 use Rattle.spans.specs.Bytes.{zeros, allZero}
-use Rattle.tables.proofs.Laws.{allZero-is, zeros-allZero, false-true}
+use Rattle.tables.proofs.Laws.{allZero-is, zeros-allZero}
 use Rattle.frame.specs.Read.{stopped, stepped, gotAt, skips}
 use Rattle.frame.specs.declared.Cursor.{Cursor}
 use Rattle.frame.proofs.Steps.{rest-at}
 use Rattle.state.specs.Layout.{padded, field}
 use Rattle.wellformed.specs.Fields.{wide, ended, filled}
-
-and-inv : (a b : Bool) → a && b ≡ true → (a ≡ true) × (b ≡ true)
-and-inv true b e = (refl, e)
-and-inv false b e = absurd (false-true e)
-
-then-inv : {A B : Type 0} (x : Got A) (k : A → List ℕ → Got B) (r : B × List ℕ) → andThen x k ≡ some r → (y : A × List ℕ) × (x ≡ some y) × (k (y .0) (y .1) ≡ some r)
-then-inv none k r e = absurd (Option·none-ne-some r e)
-then-inv (some y) k r e = (y, refl, e)
 
 cond-inv : {B : Type 0} (b : Bool) (x r : B) → cond b (some x) none ≡ some r → (b ≡ true) × (x ≡ r)
 cond-inv true x r e = (refl, Option·some-injective x r e)

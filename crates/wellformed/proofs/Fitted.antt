@@ -2,9 +2,9 @@
 use Prim.Native.Nat.{ℕ, _+_, _≤_, _<_}
 use native.Mathlib.Omega.{arith}
 use mathlib.Core.Path.{_≡_, refl, sym, ap₂, _∙_, subst}
-use mathlib.Core.List.{List, [], _∷_}
+use mathlib.Core.List.{[], _∷_}
 use mathlib.Core.Option.{Option, none, some}
-use mathlib.Core.Bool.{Bool, not}
+use mathlib.Core.Bool.{not}
 use lib.ListN.{length, length-append}
 use lib.Dec.{T, leb, le→leb}
 use Rattle.format.specs.Format.{All, option, via, _⊗_, enum, _∣_, nothing, list, number, below}
@@ -16,14 +16,14 @@ use Rattle.model.specs.Formats.{resourceId, conflictsF, refusalsF, editF, listF
 use Rattle.model.specs.SavedForm.{passF, pendingF, queueF, stateF}
 use Rattle.model.specs.Machine.{sum}
 use Rattle.model.specs.Sync.{start}
-use Rattle.model.specs.WellFormed.{all, every, if-any, rising, pass-rises, entry-rules, queue-rules, rules, WellFormed}
+use Rattle.model.specs.WellFormed.{all, if-any, rising, pass-rises, entry-rules, queue-rules, rules, WellFormed}
 use Rattle.model.proofs.Tables.{and-left, and-right, and-both, same-self, same-is}
 use Rattle.model.proofs.OneInFlight.{every-at}
 use Rattle.model.proofs.Fits as model
-use Rattle.model.proofs.StaysWellFormed.{start-fit}
+use Rattle.model.proofs.StaysWellFormed.{start-fit, every-all}
+use Rattle.model.proofs.Fitting.{length-map}
 use Rattle.state.specs.Layout.{edit-slots, pass-of, no-pass}
 use Rattle.state.specs.Fits.{PassFits, PendingFits, QueueFits, Fits}
-use Rattle.state.proofs.Rows.{length-rows}
 use Rattle.state.proofs.Regions.{bool-ok}
 use Rattle.wellformed.specs.Across.{Across}
 
@@ -72,7 +72,7 @@ module _ (L : Limits) where
   pub slots-sum : (m : Map ResourceId Queue) → length (edit-slots L m) ≡ sum (map length (values m))
   unfolding edit-slots sum map values
   slots-sum [] = refl
-  slots-sum (e ∷ m) = length-append (map _ (e .1)) (edit-slots L m) ∙ ap₂ _+_ (length-rows _ (e .1)) (slots-sum m)
+  slots-sum (e ∷ m) = length-append (map _ (e .1)) (edit-slots L m) ∙ ap₂ _+_ (length-map _ (e .1)) (slots-sum m)
 
   -- ---- well-formed states fit
 
@@ -145,11 +145,6 @@ module _ (L : Limits) where
   unfolding values map sum
   queues-few [] a = omega arith
   queues-few (e ∷ m) a = let i = queues-few m (a .1) in let j = a .0 .some in omega arith
-
-  every-all : (l : List Bool) → All T l → T (every l)
-  unfolding every
-  every-all [] a = tt
-  every-all (b ∷ l) a = and-both b (every l) (a .0) (every-all l (a .1))
 
   entries-ruled : (r : ResourceId) (q : Queue) → All (PendingFits L r) q → T (all (entry-rules r) q)
   unfolding all entry-rules max-conflict-bytes max-refused-bytes

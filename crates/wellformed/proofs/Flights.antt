@@ -4,16 +4,17 @@ use native.Mathlib.Omega.{arith}
 use mathlib.Core.Path.{_≡_, refl, sym, ap, ap₂, _∙_}
 use mathlib.Core.List.{List, [], _∷_, _++_}
 use mathlib.Core.Option.{none, some}
-use mathlib.Core.Bool.{Bool, true, false, not, _&&_, _||_}
+use mathlib.Core.Bool.{Bool, true, false, not, _||_}
 use lib.ListN.{length, take, drop, getD}
-use lib.Seq.{take-at, drop-at, take-all, drop-drop, getD-append-add}
+use lib.Seq.{take-all, drop-drop, getD-append-add}
 use lib.Dec.{ltb, eqb, isEq}
-use Rattle.format.specs.Format.{All, via, enum, _∣_, nothing, text as text-format, number, bigEndian}
+use Rattle.format.specs.Format.{All, via, enum, _∣_, nothing, text as text-format, number}
 use Rattle.spans.specs.Bytes.{zeros, both}
 use Rattle.spans.specs.Compare.{order}
 use Rattle.spans.specs.declared.Order.the-variants.{Less}
 use Rattle.numbers.specs.Big.{fromBe}
 use Rattle.tables.specs.Table.{Table, text, place, atPlace, isEqual}
+use Rattle.tables.proofs.Laws as tables
 use Rattle.model.specs.Event.{Text}
 use Rattle.model.specs.Seam.{RequestId, ResourceId}
 use Rattle.model.specs.State.{Map, Pending, Queue, Purpose, SyncState}
@@ -26,9 +27,9 @@ use Rattle.model.specs.WellFormed.{all, count, for-edit, edit-requests, has-que
 use Rattle.model.proofs.Tables.{by-name-turned}
 use Rattle.state.specs.Layout.{padded, field, name-slot, number-key, flight-slot, pending-slot, edit-slots}
 use Rattle.state.specs.Fits.{QueueFits}
-use Rattle.state.proofs.Widths.{length-digits}
 use Rattle.state.proofs.Padded.{length-name, text-name, text-name-only, length-number}
 use Rattle.state.proofs.Orders.{flipped, name-order, from-digits}
+use Rattle.state.proofs.Ops.{flight-number, flight-value}
 use Rattle.regions.specs.Tests.{everySlot}
 use Rattle.wellformed.specs.Tests.{isBelow, isEdit, keyIn, isFound, isQueued, isFor, one, countSlots, isAsked}
 
@@ -40,16 +41,9 @@ slot-text r p = text-name r _
 
 -- ---- one in-flight slot
 
-number-in : (e : RequestId × Purpose) → take 8 (drop 1 (flight-slot e)) ≡ bigEndian 8 (e .0)
-unfolding number-key number
-number-in e = take-at (bigEndian 8 (e .0)) (field 34 purposeF (e .1)) 8 (length-digits 8 (e .0))
-
 below-of : (n : ℕ) (e : RequestId × Purpose) → u64 .Ok (e .0) → isBelow n (flight-slot e) ≡ ltb (e .0) n
 unfolding isBelow number
-below-of n e h = ap (λ (x : ℕ). ltb x n) (ap (fromBe 0) (number-in e) ∙ from-digits (e .0) h)
-
-behind-key : (e : RequestId × Purpose) → drop 9 (flight-slot e) ≡ field 34 purposeF (e .1)
-behind-key e = drop-at (number-key (e .0)) (field 34 purposeF (e .1)) 9 (length-number (e .0))
+below-of n e h = ap (λ (x : ℕ). ltb x n) (ap (fromBe 0) (flight-number e) ∙ from-digits (e .0) h)
 
 -- the byte of the purpose
 kind-in : (e : RequestId × Purpose) → getD (flight-slot e) 9 0 ≡ getD (field 34 purposeF (e .1)) 0 0
@@ -67,7 +61,7 @@ purpose-is k r =
 
 key-of : (e : RequestId × Purpose) (k : ℕ) (r : ResourceId) → resourceId .Ok r → field 34 purposeF (e .1) ≡ k ∷ name-slot r → keyIn (flight-slot e) ≡ name-slot r
 key-of e k r ok p =
-    let d : drop 10 (flight-slot e) ≡ name-slot r = sym (drop-drop 1 9 (flight-slot e)) ∙ ap (drop 1) (behind-key e ∙ p) in
+    let d : drop 10 (flight-slot e) ≡ name-slot r = sym (drop-drop 1 9 (flight-slot e)) ∙ ap (drop 1) (flight-value e ∙ p) in
     let l : length (name-slot r) ≡ 33 = length-name r ok in
     ap (take 33) d ∙ take-all 33 (name-slot r) (omega arith)
 
@@ -165,19 +159,15 @@ for-is key (n, Purpose.Refresh r) ok = for-other key (n, Purpose.Refresh r) (oth
 abbrev pub FlightFits : RequestId × Purpose → Type 0
 FlightFits e = u64 .Ok (e .0) × purposeF .Ok (e .1)
 
-both-and : (a b : Bool) → both a b ≡ (a && b)
-both-and true b = refl
-both-and false b = refl
-
 pub all-below : (n : ℕ) (m : Map RequestId Purpose) → All FlightFits m → everySlot (isBelow n) (map flight-slot m) ≡ all (λ id. ltb id n) (keys m)
 unfolding everySlot map keys all
 all-below n [] a = refl
-all-below n (e ∷ m) a = ap₂ both (below-of n e (a .0 .0)) (all-below n m (a .1)) ∙ both-and (ltb (e .0) n) (all (λ id. ltb id n) (keys m))
+all-below n (e ∷ m) a = ap₂ both (below-of n e (a .0 .0)) (all-below n m (a .1)) ∙ tables.both-and (ltb (e .0) n) (all (λ id. ltb id n) (keys m))
 
 pub all-queued : (s : SyncState) → All (QueueFits document01) (s .edits) → (m : Map RequestId Purpose) → All FlightFits m → everySlot (isQueued (edit-slots document01 (s .edits))) (map flight-slot m) ≡ all (has-queue s) (values m)
 unfolding everySlot map values all
 all-queued s q [] a = refl
-all-queued s q (e ∷ m) a = ap₂ both (queued-is s q e (a .0 .1)) (all-queued s q m (a .1)) ∙ both-and (has-queue s (e .1)) (all (has-queue s) (values m))
+all-queued s q (e ∷ m) a = ap₂ both (queued-is s q e (a .0 .1)) (all-queued s q m (a .1)) ∙ tables.both-and (has-queue s (e .1)) (all (has-queue s) (values m))
 
 count-is : (key : List ℕ) (m : Map RequestId Purpose) → All FlightFits m → countSlots (isFor key) (map flight-slot m) ≡ count (for-edit (text key)) (values m)
 unfolding countSlots map values count filter if_then_else_
@@ -209,4 +199,4 @@ unfolding everySlot edit-slots keys map all
 all-asked s a [] q = refl
 all-asked s a ((r, []) ∷ m) q = absurd (let h = q .0 .some in omega arith)
 all-asked s a ((r, p ∷ l) ∷ m) q =
-    queue-asked s a r p l (edit-slots document01 m) ∙ ap (both (eqb (edit-requests r s) 1)) (all-asked s a m (q .1)) ∙ both-and (eqb (edit-requests r s) 1) (all (λ resource. eqb (edit-requests resource s) 1) (keys m))
+    queue-asked s a r p l (edit-slots document01 m) ∙ ap (both (eqb (edit-requests r s) 1)) (all-asked s a m (q .1)) ∙ tables.both-and (eqb (edit-requests r s) 1) (all (λ resource. eqb (edit-requests resource s) 1) (keys m))

@@ -2,11 +2,12 @@
 use Prim.Native.Nat.{ℕ, _+_, _-_, _*_, _≤_, _<_}
 use native.Mathlib.Nat.{mul-le-mul-right}
 use native.Mathlib.Omega.{arith}
-use mathlib.Core.Path.{_≡_, refl, sym, ap, ap₂, _∙_, subst}
+use mathlib.Core.Path.{_≡_, sym, ap, ap₂, _∙_, subst}
 use mathlib.Core.List.{List}
-use mathlib.Core.Bool.{Bool, true, false}
+use mathlib.Core.Bool.{Bool, true}
+use mathlib.Core.Option.{some}
 use lib.ListN.{length, take, drop, getD}
-use lib.Dec.{T, ltb, eqb}
+use lib.Dec.{ltb, eqb}
 use Rattle.spans.specs.Bytes.{both}
 use Rattle.tables.specs.Table.{Table, Sized, encTable, slotsOf, Holds}
 use Rattle.tables.proofs.Laws as tables
@@ -15,9 +16,12 @@ use Rattle.model.specs.State.{SyncState}
 use Rattle.model.specs.Limits.{document01}
 use Rattle.model.specs.Maps.{map, keys, values}
 use Rattle.model.specs.WellFormed.{all, edit-requests, has-queue}
+use Rattle.model.proofs.Fitting.{length-map}
+use Rattle.model.specs.Entry.{read-state}
+use Rattle.model.proofs.EntryLaws.{states-exact}
 use Rattle.state.specs.Layout.{flight-slot, edit-slots}
 use Rattle.state.specs.Contract.{Keeps, HasState, Reads}
-use Rattle.state.proofs.Rows.{length-rows, sized-rows}
+use Rattle.state.proofs.Rows.{sized-rows}
 use Rattle.state.proofs.Regions.{flight-long, edits-sized}
 use Rattle.state.proofs.Parts as parts
 use Rattle.regions.specs.Inside.{EditsIn, OthersIn}
@@ -28,6 +32,8 @@ use Rattle.wellformed.specs.Tests.{agree}
 use Rattle.wellformed.specs.IsState.{IsState}
 use Rattle.wellformed.proofs.Fitted.{fits-of, across-of, well-of}
 use Rattle.wellformed.proofs.Flights.{FlightFits, all-below, all-queued, all-asked}
+use Rattle.format.proofs.FormatLaws.{true-T, T-true}
+use Rattle.layout.proofs.Bytes.{layout-is}
 
 -- ---- the waiting entries in the buffer
 
@@ -83,7 +89,7 @@ module _ {s : SyncState} {w : List ℕ} (K : Keeps s w) where
       let k : 55643 + 1033 ≤ length w = omega arith in (
         k,
         count-holds 43 24 (part 55643 1033 w) (map flight-slot (s .in-flight)) (omega arith) (tables.part-length w 55643 1033 k) (parts.in-flight-part s w K)
-            (subst (λ (n : ℕ). n ≤ 24) (sym (length-rows flight-slot (s .in-flight))) (K .fits .in-flight .small)),
+            (subst (λ (n : ℕ). n ≤ 24) (sym (length-map flight-slot (s .in-flight))) (K .fits .in-flight .small)),
       )
 
   pub entries-hold : (20002 + 35641 ≤ length w) × Holds 5940 (part 20002 35641 w)
@@ -103,13 +109,6 @@ module _ {s : SyncState} {w : List ℕ} (K : Keeps s w) where
       let e = K .fits .edits .each in
       rw (flights-are, entries-are, all-below (s .next-request) (s .in-flight) f, all-asked s f (s .edits) e, all-queued s e (s .in-flight) f)
 
-is-true : (b : Bool) → T b → b ≡ true
-is-true true t = refl
-is-true false t = absurd t
-
-true-is : (b : Bool) → b ≡ true → T b
-true-is b e = subst T (sym e) tt
-
 pub across-is : (w : List ℕ) (n : ℕ) (r : Bool) → Reads (λ s. s .next-request) w n → r ≡ agree n (slotsOf 43 (part 55643 1033 w)) (slotsOf 5940 (part 20002 35641 w))
     → (s : SyncState) → Keeps s w → (r ≡ true → Across s) × (Across s → r ≡ true)
 across-is w n r N e s K =
@@ -120,8 +119,8 @@ across-is w n r N e s K =
       λ h.
           let u = tables.both-true a (both b c) (sym q ∙ h) in
           let v = tables.both-true b c (u .1) in
-          record { below = true-is a (u .0); one-each = true-is b (v .0); queued = true-is c (v .1) },
-      λ A. q ∙ ap₂ both (is-true a (A .below)) (ap₂ both (is-true b (A .one-each)) (is-true c (A .queued))),
+          record { below = true-T a (u .0); one-each = true-T b (v .0); queued = true-T c (v .1) },
+      λ A. q ∙ ap₂ both (T-true a (A .below)) (ap₂ both (T-true b (A .one-each)) (T-true c (A .queued))),
     )
 
 -- ---- the whole
@@ -140,3 +139,13 @@ others-of b I = whole.others-part (I .state) b (keeps-of I)
 
 pub waiting-of : (b : List ℕ) → IsState b → EditsIn b
 waiting-of b I = whole.edits-part (I .state) b (keeps-of I)
+
+-- ---- which bytes are read as a state
+
+pub read-of : {b : List ℕ} (I : IsState b) → read-state document01 b ≡ some (I .state)
+read-of {b} I = states-exact document01 b (I .state) .1 (I .well, I .bytes ∙ layout-is document01 (I .state) (fits-of document01 (I .state) (I .well)))
+
+pub is-read : {b : List ℕ} {s : SyncState} → read-state document01 b ≡ some s → IsState b
+is-read {b} {s} e =
+    let h = states-exact document01 b s .0 e in
+    record { state = s; well = h .0; bytes = h .1 ∙ sym (layout-is document01 s (fits-of document01 s (h .0))) }

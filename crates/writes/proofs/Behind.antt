@@ -17,9 +17,9 @@ use Rattle.model.specs.Sync.{is-create, move-to, move-behind, remap, start-edit
 use Rattle.model.proofs.Tables.{same-self, by-name-same, name-order}
 use Rattle.state.specs.Setters.{with-edits}
 use Rattle.state.specs.Contract.{Keeps, HasState, Reads, Edits, Tries}
-use Rattle.waiting.specs.Queues.{put-in, queue, put-queue, renamed, nth, moved}
+use Rattle.waiting.specs.Queues.{queue, put-queue, renamed, nth, moved}
 use Rattle.waiting.specs.Reading.{operation-case-of}
-use Rattle.waiting.proofs.Bridge.{queue-is}
+use Rattle.waiting.proofs.Bridge.{queue-is, set-queue-is}
 use Rattle.waiting.proofs.Splices.{rows-count}
 use Rattle.machine.specs.declared.Progress.{Progress}
 use Rattle.machine.specs.Contract.{Does, Changes, Pushes}
@@ -35,11 +35,6 @@ kept R = filter (λ q. is-create (q .edit .operation)) R
 
 abbrev left : Queue → Queue
 left R = filter (λ q. not (is-create (q .edit .operation))) R
-
-pub set-queue-is : (r : ResourceId) (q : Queue) (m : Machine) → set-queue r q m ≡ with-state (put-queue r q (m .state)) m
-unfolding set-queue put-in set-edits
-set-queue-is r [] m = refl
-set-queue-is r (p ∷ q) m = refl
 
 module _ (from to : ResourceId) (d : by-name from to ≡ Ordering·eq → ⊥) (d′ : by-name to from ≡ Ordering·eq → ⊥) where
   -- what is moved, as a map

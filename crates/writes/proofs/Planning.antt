@@ -29,7 +29,7 @@ use Rattle.merge.proofs.Room.{event-fits}
 use Rattle.waiting.specs.Queues.{queue, put-queue, nth}
 use Rattle.waiting.specs.Entries.{SomeEntryAt, FindsEntry}
 use Rattle.waiting.specs.Reading.{case-of, operation-case-of}
-use Rattle.waiting.proofs.Bridge.{queue-is, head-is, plan-is}
+use Rattle.waiting.proofs.Bridge.{queue-is, head-is, plan-is, set-queue-is}
 use Rattle.machine.specs.declared.Progress.{Progress}
 use Rattle.machine.specs.Contract.{Ran, Does}
 use Rattle.machine.specs.Steps.{refusal, unless}
@@ -38,7 +38,6 @@ use Rattle.machine.proofs.Steps as steps
 use Rattle.queues.specs.Heads.{created, created-by}
 use Rattle.queues.proofs.Starts.{reads-any}
 use Rattle.writes.specs.Plans.{operation-part, GivenAt, HasGiven, Filled, with-merge, HeadCase, send-merged, plan-head}
-use Rattle.writes.proofs.Behind.{set-queue-is}
 use Rattle.writes.proofs.Plans.{filled-part}
 use Rattle.writes.proofs.Entries.{begins-alone, event-begins, given, entry-found, no-entry}
 

@@ -26,7 +26,7 @@ units-requires-2 : tie.Need-units-requires-2
 units-requires-2 c κs = search needs
 
 returns : tie.Need-returns
-returns c = laws.wrote-as (pens.wrote-then (c .before .before .before .before .before .before .before .before .before .before .before .before .before .before .before .before .before .before .before .units .ensures .pen) (pens.wrote-then (c .before .before .before .before .before .before .before .before .before .before .before .before .before .before .byte .ensures) (pens.wrote-then (c .before .before .before .before .before .before .before .entries .ensures .pen) (c .before .before .before .units2 .ensures .pen)))) (laws.fields-are (c .before .before .before .before .before .before .before .before .before .before .before .before .before .before .before .before .before .before .before .before .before .before .before .before .before .before .args .owner) (c .before .before .before .before .before .before .before .before .before .before .before .before .before .before .before .before .before .before .before .before .before .before .before .before .before .before .args .me .now) (c .before .before .before .before .before .before .before .before .before .before .before .before .before .before .before .before .before .before .before .before .before .before .before .before .before .before .args .base .now) (c .before .before .before .before .before .before .before .before .before .before .before .before .before .before .before .before .before .before .before .before .before .before .before .before .before .before .args .ours .now) (c .before .before .before .before .before .before .before .before .before .before .before .before .before .before .before .before .before .before .before .before .before .before .before .before .before .before .args .theirs .now) _ _ _ (c .before .before .before .before .before .before .before .before .before .before .unit-part .ensures) (c .before .before .before .before .before .before .before .before .before .unit-part2 .ensures) (c .before .before .before .before .before .before .before .before .unit-part3 .ensures) (c .before .before .before .before .before .before .before .before .before .before .before .before .before .before .before .before .before .before .before .before .before .before .before .before .before .before .args .n))
+returns c = pens.wrote-as (pens.wrote-then (c .before .before .before .before .before .before .before .before .before .before .before .before .before .before .before .before .before .before .before .units .ensures .pen) (pens.wrote-then (c .before .before .before .before .before .before .before .before .before .before .before .before .before .before .byte .ensures) (pens.wrote-then (c .before .before .before .before .before .before .before .entries .ensures .pen) (c .before .before .before .units2 .ensures .pen)))) (laws.fields-are (c .before .before .before .before .before .before .before .before .before .before .before .before .before .before .before .before .before .before .before .before .before .before .before .before .before .before .args .owner) (c .before .before .before .before .before .before .before .before .before .before .before .before .before .before .before .before .before .before .before .before .before .before .before .before .before .before .args .me .now) (c .before .before .before .before .before .before .before .before .before .before .before .before .before .before .before .before .before .before .before .before .before .before .before .before .before .before .args .base .now) (c .before .before .before .before .before .before .before .before .before .before .before .before .before .before .before .before .before .before .before .before .before .before .before .before .before .before .args .ours .now) (c .before .before .before .before .before .before .before .before .before .before .before .before .before .before .before .before .before .before .before .before .before .before .before .before .before .before .args .theirs .now) _ _ _ (c .before .before .before .before .before .before .before .before .before .before .unit-part .ensures) (c .before .before .before .before .before .before .before .before .before .unit-part2 .ensures) (c .before .before .before .before .before .before .before .before .unit-part3 .ensures) (c .before .before .before .before .before .before .before .before .before .before .before .before .before .before .before .before .before .before .before .before .before .before .before .before .before .before .args .n))
 
 same-length : tie.Need-same-length
 same-length c = returns c .long

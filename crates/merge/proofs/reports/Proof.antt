@@ -26,7 +26,7 @@ same-length : tie.Need-same-length
 same-length c = search needs
 
 returns : tie.Need-returns
-returns c = laws.listed-as (pens.listed-then (c .before .before .before .before .before .before .before .before .before .before .before .before .before .units .ensures) (pens.listed-then (c .before .before .before .before .before .before .entries .ensures) (c .before .before .units2 .ensures))) (laws.reports-are (c .before .before .before .before .before .before .before .before .before .before .before .before .before .before .before .before .before .before .before .before .args .owner) (c .before .before .before .before .before .before .before .before .before .before .before .before .before .before .before .before .before .before .before .before .args .me .now) (c .before .before .before .before .before .before .before .before .before .before .before .before .before .before .before .before .before .before .before .before .args .base .now) (c .before .before .before .before .before .before .before .before .before .before .before .before .before .before .before .before .before .before .before .before .args .ours .now) (c .before .before .before .before .before .before .before .before .before .before .before .before .before .before .before .before .before .before .before .before .args .theirs .now) _ _ _ (c .before .before .before .before .before .before .before .before .before .unit-part .ensures) (c .before .before .before .before .before .before .before .before .unit-part2 .ensures) (c .before .before .before .before .before .before .before .unit-part3 .ensures) (c .before .before .before .before .before .before .before .before .before .before .before .before .before .before .before .before .before .before .before .before .args .which))
+returns c = pens.listed-as (pens.listed-then (c .before .before .before .before .before .before .before .before .before .before .before .before .before .units .ensures) (pens.listed-then (c .before .before .before .before .before .before .entries .ensures) (c .before .before .units2 .ensures))) (laws.reports-are (c .before .before .before .before .before .before .before .before .before .before .before .before .before .before .before .before .before .before .before .before .args .owner) (c .before .before .before .before .before .before .before .before .before .before .before .before .before .before .before .before .before .before .before .before .args .me .now) (c .before .before .before .before .before .before .before .before .before .before .before .before .before .before .before .before .before .before .before .before .args .base .now) (c .before .before .before .before .before .before .before .before .before .before .before .before .before .before .before .before .before .before .before .before .args .ours .now) (c .before .before .before .before .before .before .before .before .before .before .before .before .before .before .before .before .before .before .before .before .args .theirs .now) _ _ _ (c .before .before .before .before .before .before .before .before .before .unit-part .ensures) (c .before .before .before .before .before .before .before .before .unit-part2 .ensures) (c .before .before .before .before .before .before .before .unit-part3 .ensures) (c .before .before .before .before .before .before .before .before .before .before .before .before .before .before .before .before .before .before .before .before .args .which))
 
 pub reports-spec : {M : Type 1} → statement M
 reports-spec =

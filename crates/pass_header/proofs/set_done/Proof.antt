@@ -12,12 +12,13 @@ use Rattle.pass_header.proofs.set_done.Reads as reads
 use Rattle.pass_header.proofs.set_done.Lts as lts
 use Rattle.pass_header.proofs.field_of.Reads as field-of-reads
 use Rattle.tables.proofs.put_slot.Reads as put-slot-reads
+use Rattle.pass_tables.proofs.Laws as pass
 
 slice-read-open : tie.Need-slice-read-open
 slice-read-open c = search needs
 
 returns : tie.Need-returns
-returns c = laws.unchanged _ (c .before .before .before .before .args .work .now) (c .if1 .taken)
+returns c = pass.unchanged _ (c .before .before .before .before .args .work .now) (c .if1 .taken)
 
 field-of-requires : tie.Need-field-of-requires
 field-of-requires c κs = laws.short-long (c .before .before .before .before .args .cursor .now) (c .before .before .before .before .pre .1)

@@ -18,7 +18,7 @@ slice-read-open : tie.Need-slice-read-open
 slice-read-open c = search needs
 
 returns : tie.Need-returns
-returns c = laws.unchanged laws.seen-roster _ (c .before .before .before .args .work .now) (c .if1 .taken)
+returns c = laws.unchanged _ (c .before .before .before .args .work .now) (c .if1 .taken)
 
 clear-in-requires : tie.Need-clear-in-requires
 clear-in-requires c κs = search needs

@@ -18,7 +18,7 @@ slice-read-open : tie.Need-slice-read-open
 slice-read-open c = search needs
 
 returns : tie.Need-returns
-returns c = laws.unchanged laws.observed-roster _ (c .before .before .before .args .work .now) (c .if1 .taken)
+returns c = laws.unchanged _ (c .before .before .before .args .work .now) (c .if1 .taken)
 
 slice-aggregate-remove-in : tie.Need-slice-aggregate-remove-in
 slice-aggregate-remove-in c = search needs

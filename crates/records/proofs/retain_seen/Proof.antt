@@ -2,6 +2,7 @@ use Prim.Native.Nat.{ℕ, _+_, _-_, _*_, _≤_, _<_}
 use mathlib.Core.Path.{_≡_, refl, sym, ap, _∙_, subst}
 use Rattle.state.proofs.Columns as columns
 use Rattle.state.proofs.Ops as ops
+use Rattle.state.proofs.Retaining as retaining
 use Rattle.records.proofs.Laws as laws
 use Rattle.records.proofs.Sieve as sieve
 use lib.ListN.{length}
@@ -29,9 +30,10 @@ loop-holds : tie.Need-loop-holds Inv-loop μ-loop
 loop-holds c = (refl, sieve.retain-start (c .before .before .args .work .now))
 
 retain-one-requires : tie.Need-retain-one-requires Inv-loop μ-loop
-retain-one-requires c κs =
-    let h = sieve.retain-below (c .before .before .before .before .before .args .work .now) (c .before .before .loop .work) (c .before .before .loop .i) (c .before .before .loop .left) (c .before .before .before .before .before .pre) (c .before .before .loop .inv .1) (c .before .loop-test .taken) in
-    (sieve.retain-has (c .before .before .before .before .before .args .work .now) (c .before .before .loop .work) (c .before .before .loop .i) (c .before .before .loop .left) (c .before .before .before .before .before .pre) (c .before .before .loop .inv .1), h .0)
+retain-one-requires c κs = (
+  retaining.retain-has (c .before .before .before .before .before .args .work .now) (c .before .before .loop .work) (c .before .before .loop .i) (c .before .before .loop .left) (c .before .before .before .before .before .pre) (c .before .before .loop .inv .1),
+  sieve.retain-below (c .before .before .before .before .before .args .work .now) (c .before .before .loop .work) (c .before .before .loop .i) (c .before .before .loop .left) (c .before .before .before .before .before .pre) (c .before .before .loop .inv .1) (c .before .loop-test .taken),
+)
 
 sub-left : tie.Need-sub-left Inv-loop μ-loop
 sub-left c = search needs
@@ -46,7 +48,7 @@ same-length : tie.Need-same-length Inv-loop μ-loop
 same-length c = c .before .loop .inv .0
 
 returns : tie.Need-returns Inv-loop μ-loop
-returns c = sieve.retain-end (c .before .before .before .before .args .work .now) (c .before .loop .work) (c .before .loop .i) (c .before .loop .left) (c .loop-test .left) (c .before .loop .inv .1)
+returns c = retaining.retain-end (c .before .before .before .before .args .work .now) (c .before .loop .work) (c .before .loop .i) (c .before .loop .left) (c .loop-test .left) (c .before .loop .inv .1)
 
 pub retain-seen-spec : {M : Type 1} → statement M
 retain-seen-spec =

@@ -8,7 +8,6 @@ use Rattle.state.specs.Contract.{HasState}
 use Rattle.flights.specs.Asked.{Listed}
 use Rattle.machine.specs.Contract.{Does}
 use Rattle.model.specs.Sync.{doubt}
-use Rattle.restarts.proofs.Laws as laws
 use Rattle.observe.proofs.Each as each
 use Rattle.observe.proofs.Reading as reading
 use native.Mathlib.Omega.{arith}
@@ -46,7 +45,7 @@ loop-again c = (
   (let l = c .before .before .before .before .before .before .before .before .loop-test .taken in omega arith),
   (let k = c .before .before .before .before .doubt .kept .0 in let e = c .before .before .before .before .before .before .before .before .before .loop .inv .2 in omega arith),
   (let k = c .before .before .before .before .doubt .kept .1 in let e = c .before .before .before .before .before .before .before .before .before .loop .inv .3 in omega arith),
-  λ l L. laws.doubt-turn l _ _ _ (c .before .before .before .before .before .before .before .before .loop-test .taken) _ L (c .before .before .before .before .before .before .before .listed-name .ensures l _ L (c .before .before .before .before .before .before .before .before .loop-test .taken) .0) (c .before .before .before .before .before .before .before .before .before .loop .inv .4 l L) (c .before .before .before .before .doubt .ensures),
+  λ l L. reading.list-turn doubt l _ _ _ (c .before .before .before .before .before .before .before .before .loop-test .taken) _ L (c .before .before .before .before .before .before .before .listed-name .ensures l _ L (c .before .before .before .before .before .before .before .before .loop-test .taken) .0) (c .before .before .before .before .before .before .before .before .before .loop .inv .4 l L) (c .before .before .before .before .doubt .ensures),
 )
 
 same-length : tie.Need-same-length Inv-loop μ-loop
@@ -56,7 +55,7 @@ same-length-2 : tie.Need-same-length-2 Inv-loop μ-loop
 same-length-2 c = c .before .loop .inv .3
 
 returns : tie.Need-returns Inv-loop μ-loop
-returns c = λ l L. laws.doubt-all l _ _ _ (c .before .loop .inv .1) (c .loop-test .left) L (c .before .loop .inv .4 l L)
+returns c = λ l L. reading.list-all doubt l _ _ _ (c .before .loop .inv .1) (c .loop-test .left) L (c .before .loop .inv .4 l L)
 
 pub doubt-each-spec : {M : Type 1} → statement M
 doubt-each-spec =

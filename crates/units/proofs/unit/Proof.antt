@@ -2,6 +2,7 @@ use Rattle.units.proofs.Laws as laws
 use borrow.Author.Needs.{needs}
 use Rattle.units.proofs.unit.Statement.{statement}
 use Rattle.units.proofs.unit.Tie as tie
+use Rattle.pens.proofs.Laws as pens
 
 verdict-of-requires : tie.Need-verdict-of-requires
 verdict-of-requires c κs = search needs
@@ -13,7 +14,7 @@ same-length : tie.Need-same-length
 same-length c = search needs
 
 returns : tie.Need-returns
-returns c = laws.listed-as (c .before .before .unit-value .ensures) (laws.unit-value (c .before .before .before .before .before .before .before .before .before .before .args .which) (c .before .before .before .before .before .before .before .before .before .before .args .k) (c .before .before .before .before .before .before .before .before .before .before .args .b .now) (c .before .before .before .before .before .before .before .before .before .before .args .o .now) (c .before .before .before .before .before .before .before .before .before .before .args .t .now) (c .before .before .before .before .before .before .before .before .before .before .args .owned) _ (c .before .before .before .before .before .verdict-of .ensures) (c .before .before .before .before .if1 .taken))
+returns c = pens.listed-as (c .before .before .unit-value .ensures) (laws.unit-value (c .before .before .before .before .before .before .before .before .before .before .args .which) (c .before .before .before .before .before .before .before .before .before .before .args .k) (c .before .before .before .before .before .before .before .before .before .before .args .b .now) (c .before .before .before .before .before .before .before .before .before .before .args .o .now) (c .before .before .before .before .before .before .before .before .before .before .args .t .now) (c .before .before .before .before .before .before .before .before .before .before .args .owned) _ (c .before .before .before .before .before .verdict-of .ensures) (c .before .before .before .before .if1 .taken))
 
 unit-conflict-requires : tie.Need-unit-conflict-requires
 unit-conflict-requires c κs = search needs
@@ -22,7 +23,7 @@ same-length-2 : tie.Need-same-length-2
 same-length-2 c = search needs
 
 returns-2 : tie.Need-returns-2
-returns-2 c = laws.listed-as (c .before .before .unit-conflict .ensures) (laws.unit-conflict (c .before .before .before .before .before .before .before .before .before .before .before .args .which) (c .before .before .before .before .before .before .before .before .before .before .before .args .k) (c .before .before .before .before .before .before .before .before .before .before .before .args .b .now) (c .before .before .before .before .before .before .before .before .before .before .before .args .o .now) (c .before .before .before .before .before .before .before .before .before .before .before .args .t .now) (c .before .before .before .before .before .before .before .before .before .before .before .args .owned) _ (c .before .before .before .before .before .before .verdict-of .ensures) (c .before .before .before .before .before .if1 .left) (c .before .before .before .before .if2 .taken))
+returns-2 c = pens.listed-as (c .before .before .unit-conflict .ensures) (laws.unit-conflict (c .before .before .before .before .before .before .before .before .before .before .before .args .which) (c .before .before .before .before .before .before .before .before .before .before .before .args .k) (c .before .before .before .before .before .before .before .before .before .before .before .args .b .now) (c .before .before .before .before .before .before .before .before .before .before .before .args .o .now) (c .before .before .before .before .before .before .before .before .before .before .before .args .t .now) (c .before .before .before .before .before .before .before .before .before .before .before .args .owned) _ (c .before .before .before .before .before .before .verdict-of .ensures) (c .before .before .before .before .before .if1 .left) (c .before .before .before .before .if2 .taken))
 
 unit-refused-requires : tie.Need-unit-refused-requires
 unit-refused-requires c κs = search needs
@@ -31,7 +32,7 @@ same-length-3 : tie.Need-same-length-3
 same-length-3 c = search needs
 
 returns-3 : tie.Need-returns-3
-returns-3 c = laws.listed-as (c .before .before .unit-refused .ensures) (laws.unit-refused (c .before .before .before .before .before .before .before .before .before .before .before .args .which) (c .before .before .before .before .before .before .before .before .before .before .before .args .k) (c .before .before .before .before .before .before .before .before .before .before .before .args .b .now) (c .before .before .before .before .before .before .before .before .before .before .before .args .o .now) (c .before .before .before .before .before .before .before .before .before .before .before .args .t .now) (c .before .before .before .before .before .before .before .before .before .before .before .args .owned) _ (c .before .before .before .before .before .before .verdict-of .ensures) (c .before .before .before .before .before .if1 .left) (c .before .before .before .before .if2 .left))
+returns-3 c = pens.listed-as (c .before .before .unit-refused .ensures) (laws.unit-refused (c .before .before .before .before .before .before .before .before .before .before .before .args .which) (c .before .before .before .before .before .before .before .before .before .before .before .args .k) (c .before .before .before .before .before .before .before .before .before .before .before .args .b .now) (c .before .before .before .before .before .before .before .before .before .before .before .args .o .now) (c .before .before .before .before .before .before .before .before .before .before .before .args .t .now) (c .before .before .before .before .before .before .before .before .before .before .before .args .owned) _ (c .before .before .before .before .before .before .verdict-of .ensures) (c .before .before .before .before .before .if1 .left) (c .before .before .before .before .if2 .left))
 
 pub unit-spec : {M : Type 1} → statement M
 unit-spec =

@@ -34,7 +34,7 @@ loop-holds c =
       c .before .before .unit-at .ensures,
       c .before .unit-at2 .ensures,
       c .unit-at3 .ensures,
-      laws.listed-as
+      pens.listed-as
           (pens.listed-none (a .out .now) (a .sheet .pen) (a .sheet .count))
           (laws.units-none (a .which) (a .owner) (a .base .now) (a .ours .now) (a .theirs .now) (a .from) (a .from - a .from) (omega arith)),
     )
@@ -81,7 +81,7 @@ loop-again c =
       laws.at-next (a .base .now) (l .k) _ _ (l .inv .2) (c .before .before .before .before .before .before .before .before .before .skip-unit .ensures),
       laws.at-next (a .ours .now) (l .k) _ _ (l .inv .3) (c .before .before .before .before .before .before .before .before .skip-unit2 .ensures),
       laws.at-next (a .theirs .now) (l .k) _ _ (l .inv .4) (c .before .before .before .before .before .before .before .skip-unit3 .ensures),
-      laws.listed-as
+      pens.listed-as
           (pens.listed-then (l .inv .5) (c .before .before .unit .ensures))
           (laws.units-more (a .which) (a .owner) (a .base .now) (a .ours .now) (a .theirs .now) (a .from) (l .k) (l .inv .0) _ _ _ _
           (laws.part-of-unit (a .base .now) (l .k) _ _ _ (l .inv .2) (c .before .before .before .before .before .before .before .before .before .skip-unit .ensures) (c .before .before .before .before .before .part .ensures))
@@ -98,7 +98,7 @@ returns c =
     let a = c .before .before .before .before .before .before .before .before .before .args in
     let l = c .before .loop in
     let e : l .k - a .from ≡ a .to - a .from = omega (arith, l .inv .0, l .inv .1, c .loop-test .left) in
-    laws.listed-as (l .inv .5) (ap (unitsItems (a .which) (a .owner) (a .base .now) (a .ours .now) (a .theirs .now) (a .from)) e)
+    pens.listed-as (l .inv .5) (ap (unitsItems (a .which) (a .owner) (a .base .now) (a .ours .now) (a .theirs .now) (a .from)) e)
 
 pub units-spec : {M : Type 1} → statement M
 units-spec =

@@ -2,6 +2,7 @@ use Rattle.attendees.proofs.Laws as laws
 use borrow.Author.Needs.{needs}
 use Rattle.attendees.proofs.lists.entry_of.Statement.{statement}
 use Rattle.attendees.proofs.lists.entry_of.Tie as tie
+use Rattle.pens.proofs.Laws as pens
 
 find-entry-requires : tie.Need-find-entry-requires
 find-entry-requires c κs = search needs
@@ -25,7 +26,7 @@ same-length : tie.Need-same-length
 same-length c = search needs
 
 returns : tie.Need-returns
-returns c = laws.listed-as (c .before .before .entry .ensures) (laws.key-is (c .before .before .before .before .before .before .before .before .before .before .before .before .before .before .before .args .which) (c .before .before .before .before .before .before .before .before .before .before .before .before .before .before .before .args .owner) (c .before .before .before .before .before .before .before .before .before .before .before .before .before .before .before .args .me .now) (c .before .before .before .before .before .before .before .before .before .before .before .before .before .before .before .args .base .now) (c .before .before .before .before .before .before .before .before .before .before .before .before .before .before .before .args .ours .now) (c .before .before .before .before .before .before .before .before .before .before .before .before .before .before .before .args .theirs .now) (c .before .before .before .before .before .before .before .before .before .before .before .before .before .before .before .args .wanted .now) (c .before .before .before .before .before .before .before .before .before .before .before .before .before .before .before .args .n) _ _ _ _ _ (c .before .before .before .before .before .before .before .before .find-entry .ensures) (c .before .before .before .before .before .before .before .find-entry2 .ensures) (c .before .before .before .before .before .before .find-entry3 .ensures) (c .before .before .before .before .before .is-own .ensures) (c .before .before .before .before .judge .ensures))
+returns c = pens.listed-as (c .before .before .entry .ensures) (laws.key-is (c .before .before .before .before .before .before .before .before .before .before .before .before .before .before .before .args .which) (c .before .before .before .before .before .before .before .before .before .before .before .before .before .before .before .args .owner) (c .before .before .before .before .before .before .before .before .before .before .before .before .before .before .before .args .me .now) (c .before .before .before .before .before .before .before .before .before .before .before .before .before .before .before .args .base .now) (c .before .before .before .before .before .before .before .before .before .before .before .before .before .before .before .args .ours .now) (c .before .before .before .before .before .before .before .before .before .before .before .before .before .before .before .args .theirs .now) (c .before .before .before .before .before .before .before .before .before .before .before .before .before .before .before .args .wanted .now) (c .before .before .before .before .before .before .before .before .before .before .before .before .before .before .before .args .n) _ _ _ _ _ (c .before .before .before .before .before .before .before .before .find-entry .ensures) (c .before .before .before .before .before .before .before .find-entry2 .ensures) (c .before .before .before .before .before .before .find-entry3 .ensures) (c .before .before .before .before .before .is-own .ensures) (c .before .before .before .before .judge .ensures))
 
 pub entry-of-spec : {M : Type 1} → statement M
 entry-of-spec =

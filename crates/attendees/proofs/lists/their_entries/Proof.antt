@@ -19,7 +19,7 @@ entry-count-requires : tie.Need-entry-count-requires Inv-loop μ-loop
 entry-count-requires c κs = search needs
 
 loop-holds : tie.Need-loop-holds Inv-loop μ-loop
-loop-holds c = (search needs, laws.listed-as (pens.listed-none (c .before .before .before .before .before .before .args .out .now) (c .before .before .before .before .before .before .args .sheet .pen) (c .before .before .before .before .before .before .args .sheet .count)) (laws.their-zero (c .before .before .before .before .before .before .args .which) (c .before .before .before .before .before .before .args .owner) (c .before .before .before .before .before .before .args .me .now) (c .before .before .before .before .before .before .args .base .now) (c .before .before .before .before .before .before .args .ours .now) (c .before .before .before .before .before .before .args .theirs .now)))
+loop-holds c = (search needs, pens.listed-as (pens.listed-none (c .before .before .before .before .before .before .args .out .now) (c .before .before .before .before .before .before .args .sheet .pen) (c .before .before .before .before .before .before .args .sheet .count)) (laws.their-zero (c .before .before .before .before .before .before .args .which) (c .before .before .before .before .before .before .args .owner) (c .before .before .before .before .before .before .args .me .now) (c .before .before .before .before .before .before .args .base .now) (c .before .before .before .before .before .before .args .ours .now) (c .before .before .before .before .before .before .args .theirs .now)))
 
 entry-part-requires : tie.Need-entry-part-requires Inv-loop μ-loop
 entry-part-requires c κs = search needs
@@ -40,7 +40,7 @@ loop-less : tie.Need-loop-less Inv-loop μ-loop
 loop-less c = search needs
 
 loop-again : tie.Need-loop-again Inv-loop μ-loop
-loop-again c = (search needs, laws.listed-as (pens.listed-then (c .before .before .before .before .before .before .before .before .loop .inv .1) (c .before .before .entry-of .ensures)) (laws.their-next (c .before .before .before .before .before .before .before .before .before .before .before .before .before .before .before .args .which) (c .before .before .before .before .before .before .before .before .before .before .before .before .before .before .before .args .owner) (c .before .before .before .before .before .before .before .before .before .before .before .before .before .before .before .args .me .now) (c .before .before .before .before .before .before .before .before .before .before .before .before .before .before .before .args .base .now) (c .before .before .before .before .before .before .before .before .before .before .before .before .before .before .before .args .ours .now) (c .before .before .before .before .before .before .before .before .before .before .before .before .before .before .before .args .theirs .now) (c .before .before .before .before .before .before .before .before .loop .i) _ _ _ (c .before .before .before .before .before .before .entry-part .ensures) (c .before .before .before .before .before .address .ensures) (c .before .before .before .before .occurrence .ensures)))
+loop-again c = (search needs, pens.listed-as (pens.listed-then (c .before .before .before .before .before .before .before .before .loop .inv .1) (c .before .before .entry-of .ensures)) (laws.their-next (c .before .before .before .before .before .before .before .before .before .before .before .before .before .before .before .args .which) (c .before .before .before .before .before .before .before .before .before .before .before .before .before .before .before .args .owner) (c .before .before .before .before .before .before .before .before .before .before .before .before .before .before .before .args .me .now) (c .before .before .before .before .before .before .before .before .before .before .before .before .before .before .before .args .base .now) (c .before .before .before .before .before .before .before .before .before .before .before .before .before .before .before .args .ours .now) (c .before .before .before .before .before .before .before .before .before .before .before .before .before .before .before .args .theirs .now) (c .before .before .before .before .before .before .before .before .loop .i) _ _ _ (c .before .before .before .before .before .before .entry-part .ensures) (c .before .before .before .before .before .address .ensures) (c .before .before .before .before .occurrence .ensures)))
 
 same-length : tie.Need-same-length Inv-loop μ-loop
 same-length c = c .before .loop .inv .1 .pen .long
@@ -48,7 +48,7 @@ same-length c = c .before .loop .inv .1 .pen .long
 returns : tie.Need-returns Inv-loop μ-loop
 returns c =
     let e : c .before .loop .i ≡ c .before .before .entry-count .result = omega (arith, c .before .loop .inv .0, c .loop-test .left) in
-    laws.listed-as (c .before .loop .inv .1) (ap (theirItems (c .before .before .before .before .before .before .before .before .args .which) (c .before .before .before .before .before .before .before .before .args .owner) (c .before .before .before .before .before .before .before .before .args .me .now) (c .before .before .before .before .before .before .before .before .args .base .now) (c .before .before .before .before .before .before .before .before .args .ours .now) (c .before .before .before .before .before .before .before .before .args .theirs .now)) (e ∙ c .before .before .entry-count .ensures))
+    pens.listed-as (c .before .loop .inv .1) (ap (theirItems (c .before .before .before .before .before .before .before .before .args .which) (c .before .before .before .before .before .before .before .before .args .owner) (c .before .before .before .before .before .before .before .before .args .me .now) (c .before .before .before .before .before .before .before .before .args .base .now) (c .before .before .before .before .before .before .before .before .args .ours .now) (c .before .before .before .before .before .before .before .before .args .theirs .now)) (e ∙ c .before .before .entry-count .ensures))
 
 pub their-entries-spec : {M : Type 1} → statement M
 their-entries-spec =

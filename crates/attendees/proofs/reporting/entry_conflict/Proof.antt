@@ -37,7 +37,7 @@ same-length : tie.Need-same-length
 same-length c = (pens.wrote-then (pens.wrote-then (c .before .before .before .before .before .before .before .before .before .before .before .before .before .before .before .before .before .before .before .before .before .before .before .before .byte .ensures) (pens.wrote-then (c .before .before .before .before .before .before .before .before .before .before .before .before .before .before .before .before .before .before .before .before .byte2 .ensures) (c .before .before .before .before .before .before .before .before .before .before .before .before .before .before .before .text .ensures))) (pens.wrote-then (c .before .before .before .before .before .before .before .before .before .before .before .side .ensures) (pens.wrote-then (c .before .before .before .before .before .before .before .side2 .ensures) (c .before .before .before .side3 .ensures)))) .long
 
 returns : tie.Need-returns
-returns c = laws.listed-as (pens.listed-one _ _ (pens.wrote-then (pens.wrote-then (c .before .before .before .before .before .before .before .before .before .before .before .before .before .before .before .before .before .before .before .before .before .before .before .before .byte .ensures) (pens.wrote-then (c .before .before .before .before .before .before .before .before .before .before .before .before .before .before .before .before .before .before .before .before .byte2 .ensures) (c .before .before .before .before .before .before .before .before .before .before .before .before .before .before .before .text .ensures))) (pens.wrote-then (c .before .before .before .before .before .before .before .before .before .before .before .side .ensures) (pens.wrote-then (c .before .before .before .before .before .before .before .side2 .ensures) (c .before .before .before .side3 .ensures)))) (c .more .ensures)) (ap (λ (a : List ℕ). ((4 ∷ 1 ∷ length a ∷ a) ++ (sideBytes (c .before .before .before .before .before .before .before .before .before .before .before .before .before .before .before .before .before .before .before .before .before .before .before .before .before .before .before .before .before .before .before .args .b .now) ++ (sideBytes (c .before .before .before .before .before .before .before .before .before .before .before .before .before .before .before .before .before .before .before .before .before .before .before .before .before .before .before .before .before .before .before .args .o .now) ++ sideBytes (c .before .before .before .before .before .before .before .before .before .before .before .before .before .before .before .before .before .before .before .before .before .before .before .before .before .before .before .before .before .before .before .args .t .now)))) ∷ []) (c .before .before .before .before .before .before .before .before .before .before .before .before .before .before .before .before .display-address .ensures .bytes))
+returns c = pens.listed-as (pens.listed-one _ _ (pens.wrote-then (pens.wrote-then (c .before .before .before .before .before .before .before .before .before .before .before .before .before .before .before .before .before .before .before .before .before .before .before .before .byte .ensures) (pens.wrote-then (c .before .before .before .before .before .before .before .before .before .before .before .before .before .before .before .before .before .before .before .before .byte2 .ensures) (c .before .before .before .before .before .before .before .before .before .before .before .before .before .before .before .text .ensures))) (pens.wrote-then (c .before .before .before .before .before .before .before .before .before .before .before .side .ensures) (pens.wrote-then (c .before .before .before .before .before .before .before .side2 .ensures) (c .before .before .before .side3 .ensures)))) (c .more .ensures)) (ap (λ (a : List ℕ). ((4 ∷ 1 ∷ length a ∷ a) ++ (sideBytes (c .before .before .before .before .before .before .before .before .before .before .before .before .before .before .before .before .before .before .before .before .before .before .before .before .before .before .before .before .before .before .before .args .b .now) ++ (sideBytes (c .before .before .before .before .before .before .before .before .before .before .before .before .before .before .before .before .before .before .before .before .before .before .before .before .before .before .before .before .before .before .before .args .o .now) ++ sideBytes (c .before .before .before .before .before .before .before .before .before .before .before .before .before .before .before .before .before .before .before .before .before .before .before .before .before .before .before .before .before .before .before .args .t .now)))) ∷ []) (c .before .before .before .before .before .before .before .before .before .before .before .before .before .before .before .before .display-address .ensures .bytes))
 
 pub entry-conflict-spec : {M : Type 1} → statement M
 entry-conflict-spec =

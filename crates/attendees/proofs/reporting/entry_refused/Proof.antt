@@ -27,7 +27,7 @@ same-length : tie.Need-same-length
 same-length c = search needs
 
 returns : tie.Need-returns
-returns c = laws.listed-as (pens.listed-one _ _ (pens.wrote-then (c .before .before .before .before .before .before .before .before .before .before .before .before .byte .ensures) (pens.wrote-then (c .before .before .before .before .before .before .before .before .byte2 .ensures) (c .before .before .before .text .ensures))) (c .more .ensures)) (ap (λ (a : List ℕ). (4 ∷ 1 ∷ length a ∷ a) ∷ []) (c .before .before .before .before .display-address .ensures .bytes))
+returns c = pens.listed-as (pens.listed-one _ _ (pens.wrote-then (c .before .before .before .before .before .before .before .before .before .before .before .before .byte .ensures) (pens.wrote-then (c .before .before .before .before .before .before .before .before .byte2 .ensures) (c .before .before .before .text .ensures))) (c .more .ensures)) (ap (λ (a : List ℕ). (4 ∷ 1 ∷ length a ∷ a) ∷ []) (c .before .before .before .before .display-address .ensures .bytes))
 
 pub entry-refused-spec : {M : Type 1} → statement M
 entry-refused-spec =

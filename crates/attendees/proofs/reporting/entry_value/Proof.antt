@@ -5,7 +5,7 @@ use Rattle.attendees.proofs.reporting.entry_value.Statement.{statement}
 use Rattle.attendees.proofs.reporting.entry_value.Tie as tie
 
 returns : tie.Need-returns
-returns c = laws.listed-as (pens.listed-none (c .before .before .before .before .args .out .now) (c .before .before .before .before .args .sheet .pen) (c .before .before .before .before .args .sheet .count)) (laws.value-none (c .before .before .before .before .args .entry .now) (c .before .before .before .before .args .reply) (c .if1 .taken))
+returns c = pens.listed-as (pens.listed-none (c .before .before .before .before .args .out .now) (c .before .before .before .before .args .sheet .pen) (c .before .before .before .before .args .sheet .count)) (laws.value-none (c .before .before .before .before .args .entry .now) (c .before .before .before .before .args .reply) (c .if1 .taken))
 
 head-requires : tie.Need-head-requires
 head-requires c κs = search needs
@@ -29,7 +29,7 @@ same-length : tie.Need-same-length
 same-length c = search needs
 
 returns-2 : tie.Need-returns-2
-returns-2 c = laws.listed-as (pens.listed-one _ _ (pens.wrote-then (c .before .before .before .before .before .before .before .before .before .before .before .before .part .ensures) (pens.wrote-then (c .before .before .before .before .before .before .before .before .byte .ensures) (c .before .before .before .byte2 .ensures))) (c .more .ensures)) (laws.value-some (c .before .before .before .before .before .before .before .before .before .before .before .before .before .before .before .before .before .before .before .args .entry .now) _ (c .before .before .before .before .before .before .before .before .before .before .before .before .before .before .before .before .before .before .before .args .reply) _ (c .before .before .before .before .before .before .before .before .before .before .before .before .before .before .before .if1 .left) (c .before .before .before .before .before .before .before .before .before .before .before .before .before .head .ensures) (c .before .before .before .before .kind .ensures))
+returns-2 c = pens.listed-as (pens.listed-one _ _ (pens.wrote-then (c .before .before .before .before .before .before .before .before .before .before .before .before .part .ensures) (pens.wrote-then (c .before .before .before .before .before .before .before .before .byte .ensures) (c .before .before .before .byte2 .ensures))) (c .more .ensures)) (laws.value-some (c .before .before .before .before .before .before .before .before .before .before .before .before .before .before .before .before .before .before .before .args .entry .now) _ (c .before .before .before .before .before .before .before .before .before .before .before .before .before .before .before .before .before .before .before .args .reply) _ (c .before .before .before .before .before .before .before .before .before .before .before .before .before .before .before .if1 .left) (c .before .before .before .before .before .before .before .before .before .before .before .before .before .head .ensures) (c .before .before .before .before .kind .ensures))
 
 pub entry-value-spec : {M : Type 1} → statement M
 entry-value-spec =

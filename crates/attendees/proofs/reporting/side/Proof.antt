@@ -14,7 +14,7 @@ same-length : tie.Need-same-length
 same-length c = search needs
 
 returns : tie.Need-returns
-returns c = laws.wrote-as (pens.wrote-then (c .before .before .before .before .before .before .before .byte .ensures) (c .before .before .byte2 .ensures)) (laws.side-none (c .before .before .before .before .before .before .before .before .before .before .before .args .entry .now) (c .before .before .before .before .if1 .taken))
+returns c = pens.wrote-as (pens.wrote-then (c .before .before .before .before .before .before .before .byte .ensures) (c .before .before .byte2 .ensures)) (laws.side-none (c .before .before .before .before .before .before .before .before .before .before .before .args .entry .now) (c .before .before .before .before .if1 .taken))
 
 byte-requires-3 : tie.Need-byte-requires-3
 byte-requires-3 c κs = search needs
@@ -26,7 +26,7 @@ same-length-2 : tie.Need-same-length-2
 same-length-2 c = search needs
 
 returns-2 : tie.Need-returns-2
-returns-2 c = laws.wrote-as (pens.wrote-then (c .before .before .before .before .before .before .before .before .before .before .before .byte .ensures) (pens.wrote-then (c .before .before .before .before .before .before .byte3 .ensures) (c .before .before .part .ensures))) (laws.side-some (c .before .before .before .before .before .before .before .before .before .before .before .before .before .before .before .args .entry .now) (c .before .before .before .before .before .before .before .before .if1 .left))
+returns-2 c = pens.wrote-as (pens.wrote-then (c .before .before .before .before .before .before .before .before .before .before .before .byte .ensures) (pens.wrote-then (c .before .before .before .before .before .before .byte3 .ensures) (c .before .before .part .ensures))) (laws.side-some (c .before .before .before .before .before .before .before .before .before .before .before .before .before .before .before .args .entry .now) (c .before .before .before .before .before .before .before .before .if1 .left))
 
 pub side-spec : {M : Type 1} → statement M
 side-spec =

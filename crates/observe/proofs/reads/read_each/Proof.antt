@@ -4,6 +4,7 @@ use mathlib.Core.List.{List as Vec}
 use lib.ListN.{length, take}
 use Rattle.model.specs.Event.{Text}
 use Rattle.model.specs.Machine.{for-each}
+use Rattle.model.specs.Sync.{read-for-pass}
 use Rattle.state.specs.Contract.{HasState}
 use Rattle.flights.specs.Asked.{Listed}
 use Rattle.machine.specs.Contract.{Does}
@@ -45,7 +46,7 @@ loop-again c = (
   (let l = c .before .before .before .before .before .before .before .before .loop-test .taken in omega arith),
   (let k = c .before .before .before .before .request-read .kept .0 in let e = c .before .before .before .before .before .before .before .before .before .loop .inv .2 in omega arith),
   (let k = c .before .before .before .before .request-read .kept .1 in let e = c .before .before .before .before .before .before .before .before .before .loop .inv .3 in omega arith),
-  λ l L. reading.read-turn l _ _ _ (c .before .before .before .before .before .before .before .before .loop-test .taken) _ L (c .before .before .before .before .before .before .before .listed-name .ensures l _ L (c .before .before .before .before .before .before .before .before .loop-test .taken) .0) (c .before .before .before .before .before .before .before .before .before .loop .inv .4 l L) (c .before .before .before .before .request-read .ensures),
+  λ l L. reading.list-turn read-for-pass l _ _ _ (c .before .before .before .before .before .before .before .before .loop-test .taken) _ L (c .before .before .before .before .before .before .before .listed-name .ensures l _ L (c .before .before .before .before .before .before .before .before .loop-test .taken) .0) (c .before .before .before .before .before .before .before .before .before .loop .inv .4 l L) (c .before .before .before .before .request-read .ensures),
 )
 
 same-length : tie.Need-same-length Inv-loop μ-loop
@@ -55,7 +56,7 @@ same-length-2 : tie.Need-same-length-2 Inv-loop μ-loop
 same-length-2 c = c .before .loop .inv .3
 
 returns : tie.Need-returns Inv-loop μ-loop
-returns c = λ l L. reading.read-all l _ _ _ (c .before .loop .inv .1) (c .loop-test .left) L (c .before .loop .inv .4 l L)
+returns c = λ l L. reading.list-all read-for-pass l _ _ _ (c .before .loop .inv .1) (c .loop-test .left) L (c .before .loop .inv .4 l L)
 
 pub read-each-spec : {M : Type 1} → statement M
 read-each-spec =

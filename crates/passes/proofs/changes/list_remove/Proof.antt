@@ -1,12 +1,12 @@
 use mathlib.Core.Path.{_≡_, refl, sym, ap, _∙_, subst}
 use Rattle.model.specs.Formats.{resourceId, shortText}
 use Rattle.model.specs.Event.{Text}
-use Rattle.passes.proofs.Changing as changing
 use Rattle.passes.proofs.Listing as laws
 use native.Mathlib.Omega.{arith}
 use borrow.Author.Needs.{needs}
 use Rattle.passes.proofs.changes.list_remove.Statement.{statement}
 use Rattle.passes.proofs.changes.list_remove.Tie as tie
+use Rattle.observe.proofs.Observing as observing
 
 resource-at-requires : tie.Need-resource-at-requires
 resource-at-requires c κs = search needs
@@ -21,7 +21,7 @@ learn-requires : tie.Need-learn-requires
 learn-requires c κs = (c .before .before .before .before .before .before .before .pre .0, c .before .before .before .name-from .ensures .1)
 
 stage-unread-requires : tie.Need-stage-unread-requires
-stage-unread-requires c κs = ((changing.state-after (c .before .before .before .before .learn .ensures) (c .before .before .before .before .before .before .before .before .before .before .before .before .pre .0)), c .before .before .before .before .before .before .before .before .name-from .ensures .1)
+stage-unread-requires c κs = ((observing.still (c .before .before .before .before .learn .ensures) (c .before .before .before .before .before .before .before .before .before .before .before .before .pre .0)), c .before .before .before .before .before .before .before .before .name-from .ensures .1)
 
 same-length : tie.Need-same-length
 same-length c = search needs
@@ -30,7 +30,7 @@ returns : tie.Need-returns
 returns c = laws.remove-doubted (c .before .before .before .before .before .before .before .before .before .before .before .before .before .before .before .args .id) (c .before .before .before .before .before .before .before .before .before .before .before .name-from .result .bytes) _ (c .before .before .before .before .before .before .before .before .before .before .before .name-from .ensures .0 ∙ c .before .before .before .before .before .before .before .before .before .before .before .before .resource-at .ensures) (c .before .before .before .before .before .before .before .before .before .doubtful .ensures) (c .before .before .before .before .before .before .before .learn .ensures) (c .before .before .before .before .if1 .taken) (c .before .before .stage-unread .ensures)
 
 stage-removed-requires : tie.Need-stage-removed-requires
-stage-removed-requires c κs = ((changing.state-after (c .before .before .before .before .learn .ensures) (c .before .before .before .before .before .before .before .before .before .before .before .before .pre .0)), c .before .before .before .before .before .before .before .before .name-from .ensures .1)
+stage-removed-requires c κs = ((observing.still (c .before .before .before .before .learn .ensures) (c .before .before .before .before .before .before .before .before .before .before .before .before .pre .0)), c .before .before .before .before .before .before .before .before .name-from .ensures .1)
 
 same-length-2 : tie.Need-same-length-2
 same-length-2 c = search needs

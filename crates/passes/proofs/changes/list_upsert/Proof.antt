@@ -1,12 +1,12 @@
 use mathlib.Core.Path.{_≡_, refl, sym, ap, _∙_, subst}
 use Rattle.model.specs.Formats.{resourceId, shortText}
 use Rattle.model.specs.Event.{Text}
-use Rattle.passes.proofs.Changing as changing
 use Rattle.passes.proofs.Listing as laws
 use native.Mathlib.Omega.{arith}
 use borrow.Author.Needs.{needs}
 use Rattle.passes.proofs.changes.list_upsert.Statement.{statement}
 use Rattle.passes.proofs.changes.list_upsert.Tie as tie
+use Rattle.observe.proofs.Observing as observing
 
 resource-at-requires : tie.Need-resource-at-requires
 resource-at-requires c κs = search needs
@@ -21,10 +21,10 @@ learn-requires : tie.Need-learn-requires
 learn-requires c κs = (c .before .before .before .before .before .before .before .pre .0, c .before .before .before .name-from .ensures .1)
 
 see-requires : tie.Need-see-requires
-see-requires c κs = ((changing.state-after (c .before .before .before .learn .ensures) (c .before .before .before .before .before .before .before .before .before .before .before .pre .0)), c .before .before .before .before .before .before .before .name-from .ensures .1)
+see-requires c κs = ((observing.still (c .before .before .before .learn .ensures) (c .before .before .before .before .before .before .before .before .before .before .before .pre .0)), c .before .before .before .before .before .before .before .name-from .ensures .1)
 
 stage-unread-requires : tie.Need-stage-unread-requires
-stage-unread-requires c κs = ((changing.state-after (c .before .before .before .before .see .ensures) (changing.state-after (c .before .before .before .before .before .before .before .before .learn .ensures) (c .before .before .before .before .before .before .before .before .before .before .before .before .before .before .before .before .pre .0))), c .before .before .before .before .before .before .before .before .before .before .before .before .name-from .ensures .1)
+stage-unread-requires c κs = ((observing.still (c .before .before .before .before .see .ensures) (observing.still (c .before .before .before .before .before .before .before .before .learn .ensures) (c .before .before .before .before .before .before .before .before .before .before .before .before .before .before .before .before .pre .0))), c .before .before .before .before .before .before .before .before .before .before .before .before .name-from .ensures .1)
 
 same-length : tie.Need-same-length
 same-length c = search needs
@@ -33,7 +33,7 @@ returns : tie.Need-returns
 returns c = laws.upsert-doubted (c .before .before .before .before .before .before .before .before .before .before .before .before .before .before .before .before .before .before .before .args .id) (c .before .before .before .before .before .before .before .before .before .before .before .before .before .before .before .name-from .result .bytes) _ (c .before .before .before .before .before .before .before .before .before .before .before .before .before .before .before .name-from .ensures .0 ∙ c .before .before .before .before .before .before .before .before .before .before .before .before .before .before .before .before .resource-at .ensures) (c .before .before .before .before .before .before .before .before .before .before .before .before .before .doubtful .ensures) (c .before .before .before .before .before .before .before .before .before .before .before .learn .ensures) _ _ (c .before .before .before .before .before .before .before .see .ensures) (c .before .before .before .before .if1 .taken) (c .before .before .stage-unread .ensures)
 
 stage-listed-requires : tie.Need-stage-listed-requires
-stage-listed-requires c κs = ((changing.state-after (c .before .before .before .before .see .ensures) (changing.state-after (c .before .before .before .before .before .before .before .before .learn .ensures) (c .before .before .before .before .before .before .before .before .before .before .before .before .before .before .before .before .pre .0))), (c .before .before .before .before .before .before .before .before .before .before .before .before .name-from .ensures .1, c .before .before .before .before .before .before .before .before .before .before .before .before .before .before .before .before .pre .1 .1, c .before .before .before .before .before .before .before .before .before .before .before .before .before .before .before .before .pre .1 .2))
+stage-listed-requires c κs = ((observing.still (c .before .before .before .before .see .ensures) (observing.still (c .before .before .before .before .before .before .before .before .learn .ensures) (c .before .before .before .before .before .before .before .before .before .before .before .before .before .before .before .before .pre .0))), (c .before .before .before .before .before .before .before .before .before .before .before .before .name-from .ensures .1, c .before .before .before .before .before .before .before .before .before .before .before .before .before .before .before .before .pre .1 .1, c .before .before .before .before .before .before .before .before .before .before .before .before .before .before .before .before .pre .1 .2))
 
 same-length-2 : tie.Need-same-length-2
 same-length-2 c = search needs

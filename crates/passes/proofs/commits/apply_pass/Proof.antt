@@ -1,22 +1,22 @@
 use Rattle.machine.proofs.Runs as runs
-use Rattle.passes.proofs.Changing as changing
 use Rattle.passes.proofs.Committing as committing
 use native.Mathlib.Omega.{arith}
 use borrow.Author.Needs.{needs}
 use Rattle.passes.proofs.commits.apply_pass.Statement.{statement}
 use Rattle.passes.proofs.commits.apply_pass.Tie as tie
+use Rattle.observe.proofs.Observing as observing
 
 apply-staged-requires : tie.Need-apply-staged-requires
 apply-staged-requires c κs = search needs
 
 keep-seen-requires : tie.Need-keep-seen-requires
-keep-seen-requires c κs = (changing.state-after (c .before .before .before .apply-staged .ensures) (c .before .before .before .before .before .before .before .pre))
+keep-seen-requires c κs = (observing.still (c .before .before .before .apply-staged .ensures) (c .before .before .before .before .before .before .before .pre))
 
 take-cursor-requires : tie.Need-take-cursor-requires
-take-cursor-requires c κs = (runs.edited (c .before .before .before .keep-seen .ensures) (changing.state-after (c .before .before .before .before .before .before .before .apply-staged .ensures) (c .before .before .before .before .before .before .before .before .before .before .before .pre)))
+take-cursor-requires c κs = (runs.edited (c .before .before .before .keep-seen .ensures) (observing.still (c .before .before .before .before .before .before .before .apply-staged .ensures) (c .before .before .before .before .before .before .before .before .before .before .before .pre)))
 
 close-pass-requires : tie.Need-close-pass-requires
-close-pass-requires c κs = (runs.edited (c .before .before .before .take-cursor .ensures) (runs.edited (c .before .before .before .before .before .before .before .keep-seen .ensures) (changing.state-after (c .before .before .before .before .before .before .before .before .before .before .before .apply-staged .ensures) (c .before .before .before .before .before .before .before .before .before .before .before .before .before .before .before .pre))))
+close-pass-requires c κs = (runs.edited (c .before .before .before .take-cursor .ensures) (runs.edited (c .before .before .before .before .before .before .before .keep-seen .ensures) (observing.still (c .before .before .before .before .before .before .before .before .before .before .before .apply-staged .ensures) (c .before .before .before .before .before .before .before .before .before .before .before .before .before .before .before .pre))))
 
 tell-synced-requires : tie.Need-tell-synced-requires
 tell-synced-requires c κs = search needs

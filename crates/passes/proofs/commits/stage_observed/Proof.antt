@@ -1,7 +1,6 @@
 use mathlib.Core.Path.{_≡_, refl, sym, ap, _∙_, subst}
 use lib.ListN.{length}
 use Rattle.passes.proofs.Walking as walking
-use Rattle.passes.proofs.Changing as changing
 use Rattle.passes.proofs.Committing as committing
 use Prim.Native.Nat.{_-_}
 use Rattle.state.specs.Contract.{Reads}
@@ -10,6 +9,7 @@ use native.Mathlib.Omega.{arith}
 use borrow.Author.Needs.{needs}
 use Rattle.passes.proofs.commits.stage_observed.Statement.{statement}
 use Rattle.passes.proofs.commits.stage_observed.Tie as tie
+use Rattle.observe.proofs.Observing as observing
 
 abbrev Inv-loop : tie.InvT-loop
 Inv-loop work₀ progress₀ i₀ count₀ work progress i count = (length work ≡ length work₀) × (committing.Staging work₀ progress₀ work progress i) × (Reads (λ s. length (pass-of (s .pass) .observed)) work count)
@@ -30,7 +30,7 @@ stage-unread-requires : tie.Need-stage-unread-requires Inv-loop μ-loop
 stage-unread-requires c κs = (c .before .before .before .before .loop .inv .1 .state, c .before .observed-at .ensures .1)
 
 observed-count-requires-2 : tie.Need-observed-count-requires-2 Inv-loop μ-loop
-observed-count-requires-2 c κs = changing.state-after (c .before .before .before .stage-unread .ensures) (c .before .before .before .before .before .before .before .before .loop .inv .1 .state)
+observed-count-requires-2 c κs = observing.still (c .before .before .before .stage-unread .ensures) (c .before .before .before .before .before .before .before .before .loop .inv .1 .state)
 
 add-i : tie.Need-add-i Inv-loop μ-loop
 add-i c = let h = (committing.stage-below (c .before .before .before .before .before .before .before .before .before .loop .work) (c .before .before .before .before .before .before .before .before .before .loop .i) (c .before .before .before .before .before .before .before .before .before .loop .count) (c .before .before .before .before .before .before .before .before .before .loop .inv .1 .state) (c .before .before .before .before .before .before .before .before .before .loop .inv .2) (c .before .before .before .before .before .before .before .before .loop-test .taken)) .1 in omega arith

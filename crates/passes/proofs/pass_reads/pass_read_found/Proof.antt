@@ -1,9 +1,9 @@
 use Rattle.passes.proofs.Answering as answering
-use Rattle.passes.proofs.Changing as changing
 use native.Mathlib.Omega.{arith}
 use borrow.Author.Needs.{needs}
 use Rattle.passes.proofs.pass_reads.pass_read_found.Statement.{statement}
 use Rattle.passes.proofs.pass_reads.pass_read_found.Tie as tie
+use Rattle.observe.proofs.Observing as observing
 
 doubtful-requires : tie.Need-doubtful-requires
 doubtful-requires c κs = (c .before .before .before .before .pre .0, c .before .before .before .before .pre .1 .0)
@@ -27,7 +27,7 @@ observe-read-requires : tie.Need-observe-read-requires
 observe-read-requires c κs = search needs
 
 remove-observed-requires : tie.Need-remove-observed-requires
-remove-observed-requires c κs = (changing.state-after (c .before .before .before .before .observe-read .ensures) (c .before .before .before .before .before .before .before .before .before .before .before .before .before .before .pre .0), c .before .before .before .before .before .before .before .before .before .before .before .before .before .before .pre .1 .0)
+remove-observed-requires c κs = (observing.still (c .before .before .before .before .observe-read .ensures) (c .before .before .before .before .before .before .before .before .before .before .before .before .before .before .pre .0), c .before .before .before .before .before .before .before .before .before .before .before .before .before .before .pre .1 .0)
 
 same-length-3 : tie.Need-same-length-3
 same-length-3 c = search needs

@@ -1,9 +1,9 @@
-use Rattle.passes.proofs.Changing as changing
 use Rattle.passes.proofs.Passing as passing
 use native.Mathlib.Omega.{arith}
 use borrow.Author.Needs.{needs}
 use Rattle.passes.proofs.requests.request_list.Statement.{statement}
 use Rattle.passes.proofs.requests.request_list.Tie as tie
+use Rattle.observe.proofs.Observing as observing
 
 next-request-requires : tie.Need-next-request-requires
 next-request-requires c κs = search needs
@@ -15,7 +15,7 @@ pen-of-requires : tie.Need-pen-of-requires
 pen-of-requires c κs = search needs
 
 ask-from-requires : tie.Need-ask-from-requires
-ask-from-requires c κs = changing.state-after (c .before .before .before .before .before .reserve .ensures) (c .before .before .before .before .before .before .before .before .before .before .before .pre)
+ask-from-requires c κs = observing.still (c .before .before .before .before .before .reserve .ensures) (c .before .before .before .before .before .before .before .before .before .before .before .pre)
 
 sent-requires : tie.Need-sent-requires
 sent-requires c κs = search needs

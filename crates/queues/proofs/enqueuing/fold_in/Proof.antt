@@ -43,7 +43,7 @@ slice-aggregate-fold-2 : tie.Need-slice-aggregate-fold-2
 slice-aggregate-fold-2 c = writers.prefix (c .before .before .before .before .before .before .before .put-id .ensures)
 
 fold-requires : tie.Need-fold-requires
-fold-requires c κs = (c .before .before .before .before .before .before .before .before .before .before .before .before .pre .0, (c .before .before .before .before .before .before .before .before .before .before .before .before .pre .1 .0, c .before .before .before .before .before .before .before .before .before .before .before .before .pre .1 .2, writers.most 9 (c .before .before .before .before .put-expiry .ensures) (widths.time-within .most _ (folding.edit-parts (meantEdit (c .before .before .before .before .before .before .before .before .before .before .before .before .args .frame .now) (c .before .before .before .before .before .before .before .before .before .before .before .before .args .edit)) (c .before .before .before .before .before .before .before .before .before .before .before .before .pre .1 .1) .expires-at)), writers.most 33 (c .before .before .before .before .before .before .before .put-id .ensures) (widths.text-33 .most _ (folding.edit-parts (meantEdit (c .before .before .before .before .before .before .before .before .before .before .before .before .args .frame .now) (c .before .before .before .before .before .before .before .before .before .before .before .before .args .edit)) (c .before .before .before .before .before .before .before .before .before .before .before .before .pre .1 .1) .id))))
+fold-requires c κs = (c .before .before .before .before .before .before .before .before .before .before .before .before .pre .0, (c .before .before .before .before .before .before .before .before .before .before .before .before .pre .1 .0, c .before .before .before .before .before .before .before .before .before .before .before .before .pre .1 .2, writers.most 9 (c .before .before .before .before .put-expiry .ensures) (widths.time-within .bytes _ (folding.edit-parts (meantEdit (c .before .before .before .before .before .before .before .before .before .before .before .before .args .frame .now) (c .before .before .before .before .before .before .before .before .before .before .before .before .args .edit)) (c .before .before .before .before .before .before .before .before .before .before .before .before .pre .1 .1) .expires-at)), writers.most 33 (c .before .before .before .before .before .before .before .put-id .ensures) (widths.text-33 .bytes _ (folding.edit-parts (meantEdit (c .before .before .before .before .before .before .before .before .before .before .before .before .args .frame .now) (c .before .before .before .before .before .before .before .before .before .before .before .before .args .edit)) (c .before .before .before .before .before .before .before .before .before .before .before .before .pre .1 .1) .id))))
 
 tried-requires : tie.Need-tried-requires
 tried-requires c κs = search needs

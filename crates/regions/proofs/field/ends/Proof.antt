@@ -3,7 +3,7 @@ use mathlib.Core.Path.{sym, ap, _∙_}
 use Rattle.regions.proofs.Fields as fields
 use borrow.Author.Tests.{not-true, not-false}
 use Rattle.spans.specs.Bytes.{both, allZero}
-use Rattle.tables.proofs.Laws as tables
+use Rattle.spans.proofs.Laws.{tail-mid}
 use lib.ListN.{drop}
 use borrow.Author.Needs.{needs}
 use Rattle.regions.proofs.field.ends.Statement.{statement}
@@ -25,7 +25,7 @@ all-zero-requires : tie.Need-all-zero-requires
 all-zero-requires c κs = search needs
 
 returns-2 : tie.Need-returns-2
-returns-2 c = c .all-zero .ensures ∙ ap allZero (tables.tail-mid (now (c .before .before .before .before .before .args .s)) (c .before .before .before .before .before .args .place .at)) ∙ sym (ap (λ b. both b (allZero (drop (c .before .before .before .before .before .args .place .at) (now (c .before .before .before .before .before .args .s))))) (not-false (c .before .before .before .before .before .args .place .ok) (c .before .before .if1 .left)))
+returns-2 c = c .all-zero .ensures ∙ ap allZero (tail-mid (now (c .before .before .before .before .before .args .s)) (c .before .before .before .before .before .args .place .at)) ∙ sym (ap (λ b. both b (allZero (drop (c .before .before .before .before .before .args .place .at) (now (c .before .before .before .before .before .args .s))))) (not-false (c .before .before .before .before .before .args .place .ok) (c .before .before .if1 .left)))
 
 pub ends-spec : {M : Type 1} → statement M
 ends-spec =
