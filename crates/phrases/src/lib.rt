@@ -1,16 +1,16 @@
-// The values of a frame up to an event in words: a place in the bytes that are read and a place in the text that is written, moved on
-// together. What is said goes into a lent slice, so that a program writes a line at once; no name can break a line, as every control
-// character in a text is shown by its number.
-mod cases;
-mod events;
-mod places;
-mod stops;
+// What is said of a step through a frame: what stands at a place, and the phrase that says it. The words go into a lent slice, so that a
+// program writes a line at once; no name can break a line, as every control character in a text is shown by its number.
+mod reading;
+mod rules;
+mod saying;
 mod writing;
 
-pub use cases::nth;
-pub use places::Chosen;
-pub use places::Last;
-pub use places::Words;
-pub use places::start;
+pub use reading::Found;
+pub use reading::read;
+pub use rules::after;
+pub use rules::alternative;
+pub use rules::rule;
+pub use rules::step;
+pub use saying::say;
 pub use writing::decimal;
 pub use writing::quoted;

@@ -7,74 +7,41 @@ pub fn decimal(pen: Pen, out: &mut [u8], n: u64) -> Pen {
     pen.part(out, &digits[..k])
 }
 
-// The number whose two's complement bits these are.
-pub fn signed(pen: Pen, out: &mut [u8], bits: u64) -> Pen {
-    if bits < 0x8000_0000_0000_0000 {
-        return decimal(pen, out, bits);
-    }
-    let minus = pen.byte(out, b'-');
-    decimal(minus, out, 0xffff_ffff_ffff_ffff - bits + 1)
-}
-
 // Bytes in quotes: text as it is, but for what would break a line.
 pub fn quoted(pen: Pen, out: &mut [u8], bytes: &[u8]) -> Pen {
-    let open = pen.byte(out, b'"');
-    let close = escaped(open, out, bytes);
-    close.byte(out, b'"')
-}
-
-// How far bytes are shown: whether they are text, the place after what was shown, and how many of the next ones are shown by their numbers.
-struct Shown {
-    text: bool,
-    pen: Pen,
-    by_number: usize,
-}
-
-fn escaped(pen: Pen, out: &mut [u8], bytes: &[u8]) -> Pen {
-    let mut shown = Shown {
-        text: format::is_text(bytes),
-        pen,
-        by_number: 0,
-    };
+    let text = format::is_text(bytes);
+    let mut said = pen.byte(out, b'"');
+    let mut hidden = 0;
     let mut i = 0;
     while i < bytes.len() {
-        shown = show(shown, out, &bytes[i..]);
+        hidden = by_number(&bytes[i..], text, hidden);
+        said = show(said, out, bytes[i], hidden);
         i += 1;
     }
-    shown.pen
+    said.byte(out, b'"')
 }
 
-// The first byte of the rest.
-fn show(shown: Shown, out: &mut [u8], rest: &[u8]) -> Shown {
-    let pen = shown.pen;
-    let b = byte_at(rest, 0);
-    let left = hidden(shown, rest);
-    if left == 0 {
-        return Shown {
-            text: shown.text,
-            pen: pen.byte(out, b),
-            by_number: 0,
-        };
+// How many bytes from here on are shown by their numbers, where so many were from the byte before on.
+fn by_number(rest: &[u8], text: bool, before: usize) -> usize {
+    if 1 < before {
+        return before - 1;
     }
-    Shown {
-        text: shown.text,
-        pen: number_of(pen, out, b),
-        by_number: left - 1,
-    }
-}
-
-// How many bytes from here on are shown by their numbers.
-fn hidden(shown: Shown, rest: &[u8]) -> usize {
-    if 0 < shown.by_number {
-        return shown.by_number;
-    }
-    if shown.text {
+    if text {
         return unprinted(rest);
     }
     if byte_at(rest, 0) < 0x80 {
         return unprinted(rest);
     }
     1
+}
+
+fn show(pen: Pen, out: &mut [u8], b: u8, hidden: usize) -> Pen {
+    if hidden == 0 {
+        return pen.byte(out, b);
+    }
+    let mut digits = [0u8; 16];
+    let k = io::hex(b as u64, 2, &mut digits);
+    pen.part(out, b"\\x").part(out, &digits[..k])
 }
 
 // How many bytes the character at the front takes where it is not to be printed as it is: a control character, a line break, a quote or a
@@ -122,10 +89,4 @@ fn byte_at(rest: &[u8], i: usize) -> u8 {
         return rest[i];
     }
     0
-}
-
-fn number_of(pen: Pen, out: &mut [u8], b: u8) -> Pen {
-    let mut digits = [0u8; 16];
-    let k = io::hex(b as u64, 2, &mut digits);
-    pen.part(out, b"\\x").part(out, &digits[..k])
 }

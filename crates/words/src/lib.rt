@@ -1,10 +1,23 @@
-// Inputs and effects in words, for those who read a log of frames.
-mod inputs;
-mod notices;
-mod refusals;
-mod reports;
-mod requests;
+// Inputs, answers and effects in words, for those who read a log of frames.
+mod grammar;
+mod route;
+mod walk;
 
-pub use inputs::input;
-pub use notices::effect;
-pub use refusals::answer;
+use grammar::said;
+use pens::Pen;
+
+// What an input frame says. Where the bytes are no input frame, how far they can be read, the first byte that cannot, and why.
+pub fn input(pen: Pen, out: &mut [u8], frame: &[u8]) -> Pen {
+    said(pen, out, frame, b"frame")
+}
+
+// What the engine answered: 0, or a refusal's number.
+pub fn answer(pen: Pen, out: &mut [u8], code: u8) -> Pen {
+    let byte = [code];
+    said(pen, out, &byte, b"answer")
+}
+
+// What an effect says.
+pub fn effect(pen: Pen, out: &mut [u8], effect: &[u8]) -> Pen {
+    said(pen, out, effect, b"told")
+}

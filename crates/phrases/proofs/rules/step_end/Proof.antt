@@ -1,0 +1,50 @@
+use Prim.Native.Nat.{_-_}
+use lib.ListN.{length}
+use borrow.Author.Needs.{needs}
+use Rattle.phrases.proofs.rules.step_end.Statement.{statement}
+use Rattle.phrases.proofs.rules.step_end.Tie as tie
+
+abbrev Inv-loop : tie.InvT-loop
+Inv-loop rules at end₀ end = Unit {0}
+
+abbrev μ-loop : tie.MeasureT-loop
+μ-loop rules at end₀ end = length rules - end
+
+loop-holds : tie.Need-loop-holds Inv-loop μ-loop
+loop-holds c = search needs
+
+shared-slice-read-ends : tie.Need-shared-slice-read-ends Inv-loop μ-loop
+shared-slice-read-ends c = search needs
+
+ends-requires : tie.Need-ends-requires Inv-loop μ-loop
+ends-requires c κs = search needs
+
+returns : tie.Need-returns Inv-loop μ-loop
+returns c = search needs
+
+add-end : tie.Need-add-end Inv-loop μ-loop
+add-end c = search needs
+
+loop-less : tie.Need-loop-less Inv-loop μ-loop
+loop-less c = search needs
+
+loop-again : tie.Need-loop-again Inv-loop μ-loop
+loop-again c = search needs
+
+returns-2 : tie.Need-returns-2 Inv-loop μ-loop
+returns-2 c = search needs
+
+pub step-end-spec : {M : Type 1} → statement M
+step-end-spec =
+    tie.close
+    (tie.spec
+    Inv-loop
+    μ-loop
+    loop-holds
+    shared-slice-read-ends
+    ends-requires
+    returns
+    add-end
+    loop-less
+    loop-again
+    returns-2)
