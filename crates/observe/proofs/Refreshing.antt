@@ -25,7 +25,7 @@ use Rattle.machine.proofs.Runs as runs
 
 -- ---- what was found
 
-abbrev doubts : RequestId → ResourceId → SyncState → Bool
+abbrev pub doubts : RequestId → ResourceId → SyncState → Bool
 doubts id r s = ltb id (s .learned-all) || is-some-and (λ since. ltb id since) (get by-name r (s .learned))
 
 found-is : (id : RequestId) (r : ResourceId) (event : Option ProviderEvent) (m : Machine) → (if doubts id r (m .state) then doubt r m else observe r event m) ≡ refresh-answered id r (Answer.Found event) m

@@ -28,7 +28,7 @@ use Rattle.machine.specs.Contract.{Does, Changes}
 use Rattle.machine.proofs.Runs as runs
 use Rattle.passes.specs.Reading.{request-from, failed-in-pass, answered-in-pass}
 use Rattle.passes.proofs.Changing as changing
-use Rattle.passes.proofs.Listing.{Doubts}
+use Rattle.observe.proofs.Refreshing.{doubts}
 
 -- ---- a page
 
@@ -160,12 +160,12 @@ read-with r event listed m = observe r event m >>= (λ m. ok (if listed then unw
 abbrev read-sure : ResourceId → Option ProviderEvent → Machine → Run
 read-sure r event m = read-with r event (listed-unread r m) m
 
-pub read-doubted : {w o w′ o′ : List ℕ} {p q : Progress} {v : Bool} (id : RequestId) (r : ResourceId) (event : Option ProviderEvent) → Reads (Doubts id r) w v → v ≡ true → Does (doubt r) w o p q w′ o′
+pub read-doubted : {w o w′ o′ : List ℕ} {p q : Progress} {v : Bool} (id : RequestId) (r : ResourceId) (event : Option ProviderEvent) → Reads (doubts id r) w v → v ≡ true → Does (doubt r) w o p q w′ o′
     → Does (pass-read-found id r event) w o p q w′ o′
 unfolding pass-read-found doubtful
 read-doubted id r event D e X = runs.is (pass-read-found id r event) (λ m. refl) (runs.taken (read-sure r event) D e X)
 
-module _ {w o : List ℕ} {p q : Progress} {v u : Bool} (id : RequestId) (r : ResourceId) (event : Option ProviderEvent) (D : Reads (Doubts id r) w v) (e : v ≡ false) (L : Reads (Unread r) w u) where
+module _ {w o : List ℕ} {p q : Progress} {v u : Bool} (id : RequestId) (r : ResourceId) (event : Option ProviderEvent) (D : Reads (doubts id r) w v) (e : v ≡ false) (L : Reads (Unread r) w u) where
   read-by : {w₂ : List ℕ} → Does (read-with r event u) w o p q w₂ o → Does (pass-read-found id r event) w o p q w₂ o
   unfolding pass-read-found doubtful
   read-by X =

@@ -3,9 +3,8 @@ use Prim.Native.Nat.{ℕ, _+_, _-_}
 use mathlib.Core.Path.{_≡_, sym, ap, _∙_, subst}
 use mathlib.Core.List.{List, _++_, append-assoc}
 use mathlib.Core.Option.{Option, none, some}
-use mathlib.Core.Bool.{Bool, true, false, _||_}
+use mathlib.Core.Bool.{Bool, true, false}
 use lib.ListN.{length, drop, take-append-drop}
-use lib.Dec.{ltb}
 use Rattle.format.specs.Format.{option, via, enum, _∣_, _⊗_}
 use Rattle.spans.specs.Bytes.{zeros}
 use Rattle.tables.specs.declared.Place.{Place}
@@ -32,6 +31,7 @@ use Rattle.machine.specs.Contract.{Changes}
 use Rattle.machine.specs.Steps.{tried-by}
 use Rattle.machine.proofs.Steps as steps
 use Rattle.observe.proofs.Reading as opened
+use Rattle.observe.proofs.Refreshing.{doubts}
 use Rattle.passes.specs.Reading.{list-found}
 use Rattle.passes.proofs.Changing as changing
 
@@ -96,16 +96,13 @@ held-already {w} {w′} {p} r t rev n event R e E =
 
 -- ---- a change
 
-abbrev pub Doubts : RequestId → ResourceId → SyncState → Bool
-Doubts id r s = ltb id (s .learned-all) || is-some-and (λ since. ltb id since) (get by-name r (s .learned))
-
 abbrev upsert-with : ResourceId → ProviderRevision → Option ProviderEvent → Bool → Machine → Run
 upsert-with r rev event doubted m = learn r m >>= (λ m. see r m >>= (λ m. if doubted then stage r Staged.Unread m else list-found r rev event m))
 
 abbrev remove-with : ResourceId → Bool → Machine → Run
 remove-with r doubted m = learn r m >>= (λ m. stage r (if doubted then Staged.Unread else Staged.Removed) m)
 
-module _ {w w₁ w₂ : List ℕ} {p q t : Progress} {v : Bool} (id : RequestId) (b : List ℕ) (r : ResourceId) (n : name-of b ≡ r) (D : Reads (Doubts id (name-of b)) w v) (L : Changes (learn (name-of b)) w p q w₁) where
+module _ {w w₁ w₂ : List ℕ} {p q t : Progress} {v : Bool} (id : RequestId) (b : List ℕ) (r : ResourceId) (n : name-of b ≡ r) (D : Reads (doubts id (name-of b)) w v) (L : Changes (learn (name-of b)) w p q w₁) where
   module _ {w₃ : List ℕ} {s : Progress} (rev : ProviderRevision) (event : Option ProviderEvent) (S : Changes (see (name-of b)) w₁ q s w₂) where
     upserted : Changes (upsert-with (name-of b) rev event v) w p t w₃ → Changes (list-change id (Change.Upsert r rev event)) w p t w₃
     unfolding list-change doubtful list-found

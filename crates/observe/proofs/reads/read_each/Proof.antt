@@ -4,7 +4,6 @@ use mathlib.Core.List.{List as Vec}
 use lib.ListN.{length, take}
 use Rattle.model.specs.Event.{Text}
 use Rattle.model.specs.Machine.{for-each}
-use Rattle.model.specs.Sync.{read-for-pass}
 use Rattle.state.specs.Contract.{HasState}
 use Rattle.flights.specs.Asked.{Listed}
 use Rattle.machine.specs.Contract.{Does}
