@@ -12,7 +12,7 @@ ghost use Rattle.format.specs.Format.{option};
 ghost use Rattle.model.specs.Event.{ProviderEvent};
 ghost use Rattle.model.specs.Seam.{resource-of};
 ghost use Rattle.model.specs.Sync.{observe-event, observe-none, observe};
-ghost use Rattle.model.specs.Formats.{resourceId, eventF};
+ghost use Rattle.model.specs.Formats.{eventF};
 ghost use Rattle.frame.specs.Meaning.{eventAt, optionEventAt};
 ghost use Rattle.state.specs.Contract.{HasState};
 ghost use Rattle.state.specs.Values.{name-of, Named};

@@ -3,10 +3,9 @@ ghost use mathlib.Core.Path.{_≡_};
 ghost use Prim.Native.Nat.{_≤_};
 ghost use lib.ListN.{length};
 ghost use Rattle.format.specs.Format.{option, stamp};
-ghost use Rattle.model.specs.Formats.{resourceId, shortText, operationF, roleF};
-ghost use Rattle.frame.specs.Meaning.{textAt, resourceAt, meantRole, meantExpiry, meantOperation};
+ghost use Rattle.model.specs.Formats.{shortText, operationF, roleF};
+ghost use Rattle.frame.specs.Meaning.{textAt, meantRole, meantExpiry, meantOperation};
 ghost use Rattle.effects.specs.Sent.{pen};
-ghost use Rattle.state.specs.Values.{name-of, Named};
 ghost use Rattle.queues.specs.Parts.{Filled};
 use crate::expiry::bits_of;
 use crate::places::event_at;
@@ -14,7 +13,6 @@ use crate::places::fields_at;
 use frame::Expiry;
 use frame::Operation;
 use frame::Role;
-use names::Name;
 use pens::Pen;
 
 pub fn start() -> Pen
