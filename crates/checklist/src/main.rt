@@ -1,18 +1,95 @@
-// The field engineers' four walks. Each says what is expected, hands frames to the engine from a fresh state, and checks what it answered.
-mod booking;
-mod checks;
-mod deadline;
-mod frames;
-mod haulier;
-mod mill;
-mod moves;
-mod pages;
+// The field engineers' walks, run on the engine. The list on standard input (tools/walk_cases.py writes crates/checklist/stdin; at most 64 KiB)
+// has these kinds of lines, by their first word; N is a number, DIGITS are bytes in lowercase hexadecimal:
+//   walk TITLE         starts a walk from a fresh state
+//   expected WORDS     what is expected of it, printed
+//   frame DIGITS       a step: the frame, the answer and the effects are printed in words
+//   mark               effects are counted from here on, and not from the walk's start
+//   check WORDS        prints whether all conditions since the last check are met
+//   all WORDS          ends the list: prints whether all walks hold
+//   # WORDS            is passed over, as an empty line is
+// and these conditions:
+//   told N ID          so many effects tell the edit Applied, Rejected or Expired
+//   sent N DIGITS      so many effects have these bytes
+//   written N          so many effects are requests to create, update or delete
+//   waits N RESOURCE   so many edits wait for the resource
+//   in_flight N        so many requests are in flight
+//   record DIGITS      there is one record, and its event has these bytes
+//   cursor TEXT        the cursor is this text
+//   no_cursor          there is no cursor
+// A condition that is not met, and a line that is none of these, is printed, and its walk does not hold.
+mod conditions;
+mod counting;
 mod print;
+mod reading;
+mod split;
+mod walk;
+
+use comparison::part;
+use comparison::same;
+use pens::Pen;
+use walk::Log;
+use walk::State;
+use walk::Walk;
+ghost use Prim.Native.Nat.{_≤_};
+ghost use lib.ListN.{length};
+
+// Handles a line of the list.
+fn one(state: &mut State, log: &mut Log, before: Walk, line: &[u8]) -> Walk {
+    let kind = split::first(line);
+    let rest = split::rest(line);
+    if line.len() == 0 {
+        return before;
+    }
+    if same(kind, b"#") {
+        return before;
+    }
+    if same(kind, b"walk") {
+        return walk::begin(state, before, rest);
+    }
+    if same(kind, b"all") {
+        return walk::end(before, rest);
+    }
+    let walk = before.opened();
+    if same(kind, b"expected") {
+        print::line(b"Expected: ", rest);
+        return walk;
+    }
+    if same(kind, b"frame") {
+        return walk::step(state, log, walk, line);
+    }
+    if same(kind, b"mark") {
+        return walk.logged(Pen { at: 0, ok: true });
+    }
+    if same(kind, b"check") {
+        return walk.check(rest);
+    }
+    let effects = part(log, 0, walk.log.at);
+    let met = conditions::met(state, effects, kind, rest);
+    walk.answered(line, met)
+}
+
+fn run(list: &[u8])
+    requires { ⌜ length (now list) ≤ 65536 ⌝ }
+{
+    let mut state = [0u8; engine::STATE];
+    let mut log = [0u8; frame::MAX_EFFECTS];
+    let mut walk = walk::none();
+    let mut from = 0;
+    while from < list.len() {
+        let to = lines::line_end(list, from);
+        walk = one(&mut state, &mut log, walk, &list[from..to]);
+        from = to + 1;
+    }
+    if walk.open {
+        print::line(
+            b"NOT all walks hold: ",
+            b"the list has no line 'all' at its end.",
+        );
+    }
+}
 
 fn main() {
-    let a = moves::walk();
-    let b = pages::walk();
-    let c = haulier::walk();
-    let d = deadline::walk();
-    print::all(a && b && c && d);
+    let mut space = io::large_buffer();
+    let n = io::read_full(0, &mut space);
+    run(&space[..n]);
 }

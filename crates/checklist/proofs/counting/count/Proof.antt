@@ -1,8 +1,8 @@
 use Prim.Native.Nat.{_-_}
 use lib.ListN.{length}
 use borrow.Author.Needs.{needs}
-use Rattle.checklist.proofs.checks.count.Statement.{statement}
-use Rattle.checklist.proofs.checks.count.Tie as tie
+use Rattle.checklist.proofs.counting.count.Statement.{statement}
+use Rattle.checklist.proofs.counting.count.Tie as tie
 
 abbrev Inv-loop : tie.InvT-loop
 Inv-loop effects wanted bytes n₀ at₀ n at = Unit {0}
@@ -25,14 +25,20 @@ part-requires c κs = search needs
 is-requires : tie.Need-is-requires Inv-loop μ-loop
 is-requires c κs = search needs
 
-one-more-requires : tie.Need-one-more-requires Inv-loop μ-loop
-one-more-requires c κs = search needs
+more-requires : tie.Need-more-requires Inv-loop μ-loop
+more-requires c κs = search needs
 
 loop-less : tie.Need-loop-less Inv-loop μ-loop
 loop-less c = search needs
 
 loop-again : tie.Need-loop-again Inv-loop μ-loop
 loop-again c = search needs
+
+loop-less-2 : tie.Need-loop-less-2 Inv-loop μ-loop
+loop-less-2 c = search needs
+
+loop-again-2 : tie.Need-loop-again-2 Inv-loop μ-loop
+loop-again-2 c = search needs
 
 returns-2 : tie.Need-returns-2 Inv-loop μ-loop
 returns-2 c = search needs
@@ -48,7 +54,9 @@ count-spec =
     returns
     part-requires
     is-requires
-    one-more-requires
+    more-requires
     loop-less
     loop-again
+    loop-less-2
+    loop-again-2
     returns-2)

@@ -1,0 +1,131 @@
+// How far a walk has come, and what its lines do to it.
+use crate::print;
+use crate::split;
+use comparison::part;
+use pens::Pen;
+
+// A state's buffer.
+pub type State = [u8; engine::STATE];
+
+// The effects since the last mark, back to back.
+pub type Log = [u8; frame::MAX_EFFECTS];
+
+pub struct Walk {
+    // where the effects end in the log
+    pub log: Pen,
+    // whether a condition stands since the last check, and whether all of them are met
+    pub asked: bool,
+    pub met: bool,
+    // whether the walk holds so far, and whether all before it do
+    pub holds: bool,
+    pub all: bool,
+    // whether its verdict is still to be printed
+    pub open: bool,
+}
+
+// Before the first walk.
+pub fn none() -> Walk {
+    Walk {
+        log: Pen { at: 0, ok: true },
+        asked: false,
+        met: true,
+        holds: true,
+        all: true,
+        open: false,
+    }
+}
+
+impl Walk {
+    // A line of the walk has come.
+    pub fn opened(mut self) -> Walk {
+        self.open = true;
+        self
+    }
+
+    pub fn logged(mut self, log: Pen) -> Walk {
+        self.log = log;
+        self
+    }
+
+    // A condition is met or not.
+    pub fn answered(mut self, line: &[u8], met: bool) -> Walk {
+        if !met {
+            print::line(b"  fails: ", line);
+        }
+        self.asked = true;
+        self.met = self.met && met;
+        self.holds = self.holds && met;
+        self
+    }
+
+    // A check of no condition does not hold.
+    pub fn check(mut self, words: &[u8]) -> Walk {
+        let holds = self.asked && self.met;
+        if holds {
+            print::line(b"  holds: ", words);
+        } else {
+            print::line(b"  does NOT hold: ", words);
+        }
+        self.asked = false;
+        self.met = true;
+        self.holds = self.holds && holds;
+        self
+    }
+
+    // The walk's end.
+    fn close(self) -> Walk {
+        let mut next = none();
+        next.all = self.all && self.holds;
+        if !self.open {
+            return next;
+        }
+        if self.holds {
+            print::line(b"The walk holds.", b"\n");
+        } else {
+            print::line(b"The walk does NOT hold.", b"\n");
+        }
+        next
+    }
+}
+
+pub fn begin(state: &mut State, before: Walk, title: &[u8]) -> Walk {
+    let walk = before.close();
+    access::fresh(state);
+    print::line(b"", title);
+    walk.opened()
+}
+
+// The list's end.
+pub fn end(before: Walk, words: &[u8]) -> Walk {
+    let walk = before.close();
+    if walk.all {
+        print::line(b"All ", words);
+    } else {
+        print::line(b"NOT all ", words);
+    }
+    walk
+}
+
+// Hands the frame of a line to the engine, and keeps the effects in the log.
+pub fn step(state: &mut State, log: &mut Log, before: Walk, line: &[u8]) -> Walk {
+    let mut frame = [0u8; lines::MAX_FRAME];
+    let mut work = [0u8; engine::STATE];
+    let mut out = [0u8; frame::MAX_EFFECTS];
+    let digits = split::rest(line);
+    let n = lines::frame_of(digits, &mut frame);
+    if n == 0 {
+        print::line(b"  bad digits: ", digits);
+        return before.answered(line, false);
+    }
+    let bytes = part(&frame, 0, n);
+    let a = engine::step(state, &mut work, &mut out, bytes);
+    let effects = part(&out, 0, a.length);
+    print::step(digits, bytes, a.code, effects);
+    let kept = before.log.part(log, effects);
+    let walk = before.logged(kept);
+    if kept.ok {
+        return walk;
+    }
+    print::line(b"  too many effects since the last mark", b"");
+    walk.answered(line, false)
+}
