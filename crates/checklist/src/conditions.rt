@@ -1,6 +1,7 @@
 // The conditions: what a line says of the effects since the mark and of the state.
 use crate::counting::Wanted;
 use crate::counting::count;
+use crate::kinds;
 use crate::print;
 use crate::reading;
 use crate::split;
@@ -27,33 +28,21 @@ fn sent(effects: &[u8], number: &[u8], digits: &[u8]) -> bool {
     is(count(effects, Wanted::Same, effect) as u64, number)
 }
 
-pub fn met(state: &State, effects: &[u8], kind: &[u8], rest: &[u8]) -> bool {
+pub fn met(state: &State, effects: &[u8], kind: u8, rest: &[u8]) -> bool {
     let number = split::first(rest);
     let what = split::rest(rest);
-    if same(kind, b"told") {
-        return is(count(effects, Wanted::Told, what) as u64, number);
+    match kind {
+        kinds::TOLD => is(count(effects, Wanted::Told, what) as u64, number),
+        kinds::SENT => sent(effects, number, what),
+        kinds::WRITTEN => is(count(effects, Wanted::Write, what) as u64, number),
+        kinds::WAITS => is(reading::waiting(state, what), number),
+        kinds::IN_FLIGHT => is(reading::in_flight(state), number),
+        kinds::RECORD => reading::only_record_is(state, rest),
+        kinds::CURSOR => reading::cursor_is(state, rest),
+        kinds::NO_CURSOR => reading::no_cursor(state),
+        _ => {
+            print::show(b"  no such kind of line\n");
+            false
+        }
     }
-    if same(kind, b"sent") {
-        return sent(effects, number, what);
-    }
-    if same(kind, b"written") {
-        return is(count(effects, Wanted::Write, b"") as u64, number);
-    }
-    if same(kind, b"waits") {
-        return is(reading::waiting(state, what), number);
-    }
-    if same(kind, b"in_flight") {
-        return is(reading::in_flight(state), number);
-    }
-    if same(kind, b"record") {
-        return reading::only_record_is(state, rest);
-    }
-    if same(kind, b"cursor") {
-        return reading::cursor_is(state, rest);
-    }
-    if same(kind, b"no_cursor") {
-        return reading::no_cursor(state);
-    }
-    print::line(b"  no such kind of line: ", kind);
-    false
 }

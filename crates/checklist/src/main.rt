@@ -19,13 +19,13 @@
 // A condition that is not met, and a line that is none of these, is printed, and its walk does not hold.
 mod conditions;
 mod counting;
+mod kinds;
 mod print;
 mod reading;
 mod split;
 mod walk;
 
 use comparison::part;
-use comparison::same;
 use pens::Pen;
 use walk::Log;
 use walk::State;
@@ -33,39 +33,30 @@ use walk::Walk;
 ghost use Prim.Native.Nat.{_≤_};
 ghost use lib.ListN.{length};
 
+// Handles a line that is a condition, or of no known kind.
+fn condition(state: &State, log: &Log, walk: Walk, line: &[u8]) -> Walk {
+    let effects = part(log, 0, walk.log.at);
+    let met = conditions::met(state, effects, kinds::of(line), split::rest(line));
+    walk.answered(line, met)
+}
+
 // Handles a line of the list.
 fn one(state: &mut State, log: &mut Log, before: Walk, line: &[u8]) -> Walk {
-    let kind = split::first(line);
     let rest = split::rest(line);
-    if line.len() == 0 {
-        return before;
-    }
-    if same(kind, b"#") {
-        return before;
-    }
-    if same(kind, b"walk") {
-        return walk::begin(state, before, rest);
-    }
-    if same(kind, b"all") {
-        return walk::end(before, rest);
-    }
     let walk = before.opened();
-    if same(kind, b"expected") {
-        print::line(b"Expected: ", rest);
-        return walk;
+    match kinds::of(line) {
+        kinds::NOTE => before,
+        kinds::WALK => walk::begin(state, before, rest),
+        kinds::EXPECTED => {
+            print::line(b"Expected: ", rest);
+            walk
+        }
+        kinds::FRAME => walk::step(state, log, walk, line),
+        kinds::MARK => walk.logged(Pen { at: 0, ok: true }),
+        kinds::CHECK => walk.check(rest),
+        kinds::ALL => walk::end(before, rest),
+        _ => condition(state, log, walk, line),
     }
-    if same(kind, b"frame") {
-        return walk::step(state, log, walk, line);
-    }
-    if same(kind, b"mark") {
-        return walk.logged(Pen { at: 0, ok: true });
-    }
-    if same(kind, b"check") {
-        return walk.check(rest);
-    }
-    let effects = part(log, 0, walk.log.at);
-    let met = conditions::met(state, effects, kind, rest);
-    walk.answered(line, met)
 }
 
 fn run(list: &[u8])
@@ -81,10 +72,7 @@ fn run(list: &[u8])
         from = to + 1;
     }
     if walk.open {
-        print::line(
-            b"NOT all walks hold: ",
-            b"the list has no line 'all' at its end.",
-        );
+        print::show(b"NOT all walks hold: the list has no line 'all' at its end.\n");
     }
 }
 

@@ -3,10 +3,14 @@ use comparison::part;
 use libc::STDOUT_FILENO;
 use pens::Pen;
 
+pub fn show(bytes: &[u8]) {
+    io::write_all(STDOUT_FILENO, bytes);
+}
+
 pub fn line(head: &[u8], words: &[u8]) {
-    io::write_all(STDOUT_FILENO, head);
-    io::write_all(STDOUT_FILENO, words);
-    io::write_all(STDOUT_FILENO, b"\n");
+    show(head);
+    show(words);
+    show(b"\n");
 }
 
 // The effects in words, each on a line of its own.
@@ -36,6 +40,6 @@ pub fn step(digits: &[u8], frame: &[u8], code: u8, effects: &[u8]) {
     if end.ok {
         line(b"    ", part(&text, 0, end.at));
     } else {
-        line(b"    (too long to print)", b"");
+        show(b"    (too long to print)\n");
     }
 }

@@ -80,9 +80,9 @@ impl Walk {
             return next;
         }
         if self.holds {
-            print::line(b"The walk holds.", b"\n");
+            print::show(b"The walk holds.\n\n");
         } else {
-            print::line(b"The walk does NOT hold.", b"\n");
+            print::show(b"The walk does NOT hold.\n\n");
         }
         next
     }
@@ -106,26 +106,29 @@ pub fn end(before: Walk, words: &[u8]) -> Walk {
     walk
 }
 
-// Hands the frame of a line to the engine, and keeps the effects in the log.
-pub fn step(state: &mut State, log: &mut Log, before: Walk, line: &[u8]) -> Walk {
-    let mut frame = [0u8; lines::MAX_FRAME];
+// Hands a frame to the engine, prints what comes of it, and keeps the effects in the log.
+fn hand(state: &mut State, log: &mut Log, pen: Pen, digits: &[u8], frame: &[u8]) -> Pen {
     let mut work = [0u8; engine::STATE];
     let mut out = [0u8; frame::MAX_EFFECTS];
+    let a = engine::step(state, &mut work, &mut out, frame);
+    let effects = part(&out, 0, a.length);
+    print::step(digits, frame, a.code, effects);
+    pen.part(log, effects)
+}
+
+pub fn step(state: &mut State, log: &mut Log, before: Walk, line: &[u8]) -> Walk {
+    let mut frame = [0u8; lines::MAX_FRAME];
     let digits = split::rest(line);
     let n = lines::frame_of(digits, &mut frame);
     if n == 0 {
         print::line(b"  bad digits: ", digits);
         return before.answered(line, false);
     }
-    let bytes = part(&frame, 0, n);
-    let a = engine::step(state, &mut work, &mut out, bytes);
-    let effects = part(&out, 0, a.length);
-    print::step(digits, bytes, a.code, effects);
-    let kept = before.log.part(log, effects);
-    let walk = before.logged(kept);
-    if kept.ok {
+    let pen = hand(state, log, before.log, digits, part(&frame, 0, n));
+    let walk = before.logged(pen);
+    if pen.ok {
         return walk;
     }
-    print::line(b"  too many effects since the last mark", b"");
+    print::show(b"  too many effects since the last mark\n");
     walk.answered(line, false)
 }

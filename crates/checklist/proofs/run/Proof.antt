@@ -4,10 +4,10 @@ use Rattle.checklist.proofs.run.Statement.{statement}
 use Rattle.checklist.proofs.run.Tie as tie
 
 abbrev Inv-loop : tie.InvT-loop
-Inv-loop list state₀ log₀ walk₀ from₀ t7 t8 state log walk from = Unit {0}
+Inv-loop list state₀ log₀ walk₀ from₀ t7 state log walk from = Unit {0}
 
 abbrev μ-loop : tie.MeasureT-loop
-μ-loop list state₀ log₀ walk₀ from₀ t7 t8 state log walk from = 65537 - from
+μ-loop list state₀ log₀ walk₀ from₀ t7 state log walk from = 65537 - from
 
 none-requires : tie.Need-none-requires Inv-loop μ-loop
 none-requires c κs = search needs
@@ -39,14 +39,11 @@ loop-less c = search needs
 loop-again : tie.Need-loop-again Inv-loop μ-loop
 loop-again c = search needs
 
-slice-aggregate-line : tie.Need-slice-aggregate-line Inv-loop μ-loop
-slice-aggregate-line c = search needs
+slice-aggregate-show : tie.Need-slice-aggregate-show Inv-loop μ-loop
+slice-aggregate-show c = search needs
 
-slice-aggregate-line-2 : tie.Need-slice-aggregate-line-2 Inv-loop μ-loop
-slice-aggregate-line-2 c = search needs
-
-line-requires : tie.Need-line-requires Inv-loop μ-loop
-line-requires c κs = search needs
+show-requires : tie.Need-show-requires Inv-loop μ-loop
+show-requires c κs = search needs
 
 returns : tie.Need-returns Inv-loop μ-loop
 returns c = search needs
@@ -70,8 +67,7 @@ run-spec =
     add-from
     loop-less
     loop-again
-    slice-aggregate-line
-    slice-aggregate-line-2
-    line-requires
+    slice-aggregate-show
+    show-requires
     returns
     returns-2)
