@@ -1,7 +1,7 @@
 #!/usr/bin/env python3
 """Writes the field engineers' four walks, the list that the program `checklist` runs: walk_cases.py FOLDER
 
-FOLDER/stdin gets the walks in the form that crates/checklist/src/main.rt says. crates/checklist has what this writes. What the program prints of
+FOLDER/stdin gets the walks in the form that README.md says under "A walk of your own". crates/checklist has what this writes. What the program prints of
 them, FOLDER/stdout, this does not write: whether a new walk's conditions are the right ones is to be found in document 01, and not by running it.
 """
 import sys

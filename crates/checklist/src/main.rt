@@ -1,21 +1,5 @@
 // The field engineers' walks, run on the engine. The list on standard input (tools/walk_cases.py writes crates/checklist/stdin; at most 64 KiB)
-// has these kinds of lines, by their first word; N is a number, DIGITS are bytes in lowercase hexadecimal:
-//   walk TITLE         starts a walk from a fresh state
-//   expected WORDS     what is expected of it, printed
-//   frame DIGITS       a step: the frame, the answer and the effects are printed in words
-//   mark               effects are counted from here on, and not from the walk's start
-//   check WORDS        prints whether all conditions since the last check are met
-//   all WORDS          ends the list: prints whether all walks hold
-//   # WORDS            is passed over, as an empty line is
-// and these conditions:
-//   told N ID          so many effects tell the edit Applied, Rejected or Expired
-//   sent N DIGITS      so many effects have these bytes
-//   written N          so many effects are requests to create, update or delete
-//   waits N RESOURCE   so many edits wait for the resource
-//   in_flight N        so many requests are in flight
-//   record DIGITS      there is one record, and its event has these bytes
-//   cursor TEXT        the cursor is this text
-//   no_cursor          there is no cursor
+// has lines of the kinds that README.md tells under "A walk of your own".
 // A condition that is not met, and a line that is none of these, is printed, and its walk does not hold.
 mod conditions;
 mod counting;
