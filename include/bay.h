@@ -2,9 +2,9 @@
  * The loading-bay calendar engine, from C and C++: link libzagyvelon.a (`rt staticlib zagyvelon`), which needs nothing but
  * memcpy, memmove and memset. x86-64 Linux.
  *
- * A step takes one input frame and gives the effects to perform, in order. What frames and effects look like is the frame
- * rule: fields follow in source order; an enum starts with one byte, its case's place counted from 0; an option with 0 or 1; a
- * list with a count byte; text is a length byte and UTF-8; whole numbers are big-endian and as wide as their type.
+ * A step takes one input frame and gives the effects to perform, in order. docs/FRAMES.md has the bytes of every type, with its
+ * fields, cases and limits, and examples. In short: fields stand one after the other; an enum starts with one byte, its case's
+ * number from 0; an option with 0 or 1; a list with a count byte; text is a length byte and UTF-8; numbers are big-endian.
  *
  * Buffers. The caller owns every buffer and lends it for one call; the engine keeps no pointer and allocates nothing. Between
  * calls the whole state is the state buffer: it may be copied, moved, and saved and loaded as bytes on the same version of
