@@ -5,7 +5,7 @@ FOLDER/stdin gets document 01's "Checked by hand", the lines that are not marked
 form that crates/checked/src/main.rt says: rows of words, each with the frame whose answer is printed behind it. crates/checked has what this writes.
 The answers, FOLDER/stdout, it does not write: a new row's are to be found in document 01, and not by running the program.
 """
-import sys
+import usage
 from frames import *
 
 LIST = []
@@ -240,4 +240,5 @@ edit_id("text U+FFFF", "efbfbf")
 edit_id("text U+10000", "f0908080")
 edit_id("text U+10FFFF", "f48fbfbf")
 
-open(sys.argv[1] + "/stdin", "w").write("".join(line + "\n" for line in LIST))
+[place] = usage.words(__doc__, usage.folder)
+open(place + "/stdin", "w").write("".join(line + "\n" for line in LIST))

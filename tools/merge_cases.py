@@ -6,8 +6,8 @@ merged event has over 8 attendees, else 01 or 00 (changed or not), the merged ev
 list, in hexadecimal. The judge answers them (judge.py): each case runs from a fresh state, an update of base and ours, the read of theirs,
 and the write's reply. The first cases are document 01's merge lines, by hand. crates/merge_replay has these and the 230 cases of seed 7.
 """
-import random, sys
-import judge
+import random
+import judge, usage
 
 def text(t): b = t.encode(); return bytes([len(b)]) + b
 def opt(x, f): return b"\0" if x is None else b"\1" + f(x)
@@ -97,7 +97,7 @@ def answer(base, ours, event, role):
     return "%02x %s %s" % (1 if merged else 0, merged.hex() or "-", applied[4:].hex())
 
 def main():
-    seed, count, folder = int(sys.argv[1]), int(sys.argv[2]), sys.argv[3]
+    seed, count, folder = usage.words(__doc__, int, int, usage.folder)
     r = random.Random(seed)
     cases = list(document01()) + [case(r) for _ in range(count)]
     lines = [answer(*c) for c in cases]

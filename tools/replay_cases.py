@@ -9,8 +9,8 @@ frames at the least. FOLDER/stdin gets the frames with the judge's answers (crat
 crates/replay has what these words give. The runs named tell slips in the engine that the others let pass:
 100 500 2 limits:62:149 mixed:98:37 passes:13:15 passes:32:47 damage:7:67 mixed:27:12 queues:36:68 limits:85:4
 """
-import subprocess, sys
-import judge
+import subprocess
+import judge, usage
 
 START = 2000    # what another run costs, beside its bytes: few long runs tell more than many short ones
 
@@ -72,12 +72,14 @@ def choose(runs, times, named):
         run.taken = max(run.taken, named.get(run.name, 0))
     return [run for run in runs if run.taken]
 
+def run_named(word):
+    """A run's name, and how many of its frames are wanted at the least."""
+    profile, seed, frames = word.split(":")
+    return profile + " " + seed, int(frames)
+
 def main():
-    folder, seeds, steps, times = sys.argv[1], int(sys.argv[2]), int(sys.argv[3]), int(sys.argv[4])
-    named = {}
-    for words in sys.argv[5:]:
-        profile, seed, frames = words.split(":")
-        named[profile + " " + seed] = int(frames)
+    folder, seeds, steps, times, *more = usage.words(__doc__, usage.folder, int, int, int, rest=run_named)
+    named = dict(more)
     runs, missed = reach(seeds, steps)
     chosen = choose(runs, times, named)
     total = sum(run.taken for run in chosen)

@@ -5,7 +5,7 @@ FOLDER/stdin gets the list (crates/state_test/src/main.rt says in what form): by
 one after the other, and what is asked of them. FOLDER/stdout, what the program must print, is no output of this script: it is read against
 document 01 by eye, each answer behind the words that say what was changed. crates/state_test has what this gives.
 """
-import sys
+import usage
 
 STATE = 58543
 
@@ -328,12 +328,13 @@ def reading(b):
     read(b, "a byte short")
 
 def main():
+    [place] = usage.words(__doc__, usage.folder)
     b = Bytes()
     for part in [lengths, padding, values, events, full, entries, across, reading]:
         part(b)
     data = "".join(line + "\n" for line in b.list).encode()
     assert len(data) <= 65536, len(data)
-    open(sys.argv[1] + "/stdin", "wb").write(data)
+    open(place + "/stdin", "wb").write(data)
     print(len(b.list), "lines,", len(data), "bytes")
 
 main()

@@ -4,7 +4,7 @@
 FOLDER/stdin gets the walks in the form that README.md says under "A walk of your own". crates/checklist has what this writes. What the program prints of
 them, FOLDER/stdout, this does not write: whether a new walk's conditions are the right ones is to be found in document 01, and not by running it.
 """
-import sys
+import usage
 from frames import *
 
 LIST = ["# The field engineers' four walks. README.md, \"A walk of your own\", says what the lines are. Above each frame stands what happens."]
@@ -190,4 +190,5 @@ check('"too late" is told Expired at once, and nothing else happens', told("too 
 
 LIST.extend(["", "all four walks hold."])
 
-open(sys.argv[1] + "/stdin", "w").write("".join(line + "\n" for line in LIST))
+[place] = usage.words(__doc__, usage.folder)
+open(place + "/stdin", "w").write("".join(line + "\n" for line in LIST))
