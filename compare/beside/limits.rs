@@ -20,6 +20,9 @@ pub const TABLES: [&str; 9] =
     ["records", "staged", "seen", "observed", "waiting", "absorbed", "in_flight", "learned", "aliases"];
 /// Document 01's nine limits.
 pub const LIMITS: [usize; 9] = [10, 10, 32, 16, 6, 8, 24, 32, 8];
+/// The bytes of a waiting entry's conflicts and of its refused list, their count bytes included.
+pub const CONFLICTS: usize = 3072;
+pub const REFUSED: usize = 1024;
 /// The effects' bytes.
 pub const EFFECTS: usize = 32_768;
 /// A merged event's attendees.

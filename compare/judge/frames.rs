@@ -13,7 +13,8 @@ use crate::cover::Cover;
 use crate::engine::{self, Engine};
 use crate::limited::{Input, Outcome, RequestId, ResourceId, codec};
 use crate::view::{Purpose, View, hex};
-use rng::Rng;
+pub use damage::ODD_TEXTS;
+pub use rng::Rng;
 pub use wild::random_state;
 
 /// A kind of run.

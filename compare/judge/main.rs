@@ -1,18 +1,10 @@
 //! The judge: document 01's program over the published Rust, frames to try it with, and checks.
-pub use calendar_sync_engine as plain;
-pub use calendar_sync_engine_limited as limited;
-
-mod checks;
-mod cover;
-mod engine;
-mod frames;
-mod view;
-
-use cover::Cover;
-use engine::{Answer, Engine};
+use judge::cover::{self, Cover};
+use judge::engine::{self, Answer, Engine};
+use judge::view::hex;
+use judge::{checks, frames, limited};
 use std::io::{self, BufRead, Write};
 use std::process::ExitCode;
-use view::hex;
 
 const USAGE: &str = "usage:
   judge run   [--state HEX] [--limits a,b,..] [--fast]  frames on standard input, answers on standard output

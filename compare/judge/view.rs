@@ -157,7 +157,7 @@ fn queue_fault(r: &ResourceId, queue: &VecDeque<PendingView>) -> Option<String> 
         let (mut conflicts, mut refused) = (Vec::new(), Vec::new());
         codec::put_conflicts(&p.conflicts, &mut conflicts);
         codec::put_refused(&p.refused, &mut refused);
-        if conflicts.len() > 3072 || refused.len() > 1024 {
+        if conflicts.len() > limits::CONFLICTS || refused.len() > limits::REFUSED {
             return Some(format!("conflicts of {} bytes, refused list of {}", conflicts.len(), refused.len()));
         }
     }

@@ -5,7 +5,7 @@ use crate::limited::{Input, Outcome, RequestId};
 use crate::view::hex;
 
 /// RFC 3629's examples, and bytes at and past the edges of what it allows.
-const TEXTS: [&[u8]; 26] = [
+pub const ODD_TEXTS: [&[u8]; 26] = [
     b"\x41\xe2\x89\xa2\xce\x91\x2e",
     b"\xed\x95\x9c\xea\xb5\xad\xec\x96\xb4",
     b"\xe6\x97\xa5\xe6\x9c\xac\xe8\xaa\x9e",
@@ -129,7 +129,7 @@ impl Gen<'_> {
 
     /// A delete whose id is some odd text.
     fn odd_text(&mut self) -> Vec<u8> {
-        let mut t = self.rng.pick(&TEXTS).to_vec();
+        let mut t = self.rng.pick(&ODD_TEXTS).to_vec();
         if self.rng.chance(50) {
             let n = *self.rng.pick(&[30usize, 31, 32, 33, 34]);
             while t.len() < n {

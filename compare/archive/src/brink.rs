@@ -1,0 +1,59 @@
+//! States on the brink of refusal 7: one entry whose notices take about as many bytes as a call's effects may.
+use judge::frames::Rng;
+use judge::limited::EditId;
+use judge::limited::{Conflict, Effect, FieldValue, Notice, Refused, codec, limits};
+use judge::model::Field;
+use judge::view::{PendingView, View};
+
+/// How far from the limit the notices end at the most. What else a step sends counts too, so the limit is met from both sides.
+const ABOUT: usize = 40;
+
+/// Gives the head of the first queue, if there is one, reports of such a length.
+pub fn to_the_brink(view: &mut View, rng: &mut Rng) {
+    let most = limits::LIMITS[5];
+    let Some(head) = view.edits.values_mut().next().and_then(|queue| queue.front_mut()) else { return };
+    head.absorbed = (0..most).map(|_| EditId::new("f".repeat(rng.below(codec::TEXT + 1)))).collect();
+    let ends = limits::EFFECTS + ABOUT - rng.below(2 * ABOUT + 1);
+    (head.conflicts, head.refused) = (Vec::new(), Vec::new());
+    let empty = notices(head);
+    let each = (ends - empty) / (most + 1);
+    head.refused = vec![Refused { field: Field::Attendees, attendee: text(codec::TEXT) }; 29];
+    let refused = (notices(head) - empty) / (most + 1);
+    head.conflicts = conflicts(each - refused);
+}
+
+/// The bytes of the notices that an applied entry ends with.
+fn notices(entry: &PendingView) -> usize {
+    let applied = |id: &EditId| {
+        let (conflicts, refused) = (entry.conflicts.clone(), entry.refused.clone());
+        codec::encode(&Effect::Notify(Notice::Applied { edit: id.clone(), conflicts, refused })).len()
+    };
+    applied(&entry.edit.id) + entry.absorbed.iter().map(applied).sum::<usize>()
+}
+
+fn text(length: usize) -> Option<String> {
+    Some("k".repeat(length))
+}
+
+/// Conflicts that take so many bytes, without the count.
+fn conflicts(bytes: usize) -> Vec<Conflict> {
+    let conflict = |attendee, base, theirs| Conflict {
+        field: Field::Location,
+        attendee,
+        base: FieldValue::Location(base),
+        ours: FieldValue::Location(None),
+        theirs: FieldValue::Location(theirs),
+    };
+    // Without a text a conflict takes 8 bytes; each text takes one more than its length.
+    let (least, text_most) = (8, codec::TEXT + 1);
+    let full = (bytes - least) / (least + 2 * text_most);
+    let mut list = vec![conflict(None, text(codec::TEXT), text(codec::TEXT)); full];
+    let mut rest = bytes - full * (least + 2 * text_most) - least;
+    let mut next = || {
+        let length = rest.min(text_most);
+        rest -= length;
+        length.checked_sub(1).and_then(text)
+    };
+    list.push(conflict(next(), next(), next()));
+    list
+}
