@@ -37,7 +37,8 @@ pub fn set(limits: [usize; 9]) {
     SETTINGS.set(limits);
 }
 
-fn limit(table: &str) -> usize {
+/// A table's limit, in this thread.
+pub fn limit(table: &str) -> usize {
     SETTINGS.get()[TABLES.iter().position(|t| *t == table).expect("a table")]
 }
 

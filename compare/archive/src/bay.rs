@@ -80,39 +80,32 @@ impl Bay {
 
     /// What is wrong with the reading functions. `view` is the state, or nothing if the bytes are no state's.
     pub fn reads(&self, view: Option<&View>) -> Vec<String> {
-        let want = view.map(View::readable);
-        let queues: Vec<&str> = view.iter().flat_map(|v| v.edits.keys()).map(|name| name.as_str()).collect();
-        let got = self.readable(&queues);
-        match (want, got) {
-            (Some(want), Ok(got)) if got == want => Vec::new(),
-            (None, Err(STATE)) => Vec::new(),
-            (want, got) => vec![format!("what can be read\n    judge   {want:02x?}\n    archive {got:02x?}")],
+        let state = &self.state;
+        let Some(view) = view else {
+            let (cursor, waiting) = (archive::cursor(state).0, archive::waiting_count(state, b"a").0);
+            let codes = [cursor, waiting, archive::record_at(state, 0).0, archive::in_flight_at(state, 0).0];
+            return codes.iter().filter(|c| **c != STATE).map(|c| format!("reading from no state gives {c}")).collect();
+        };
+        let queues: Vec<&str> = view.edits.keys().map(|name| name.as_str()).collect();
+        match (view.readable(), self.readable(&queues)) {
+            (want, Ok(got)) if got == want => Vec::new(),
+            (want, Ok(got)) => vec![told("what can be read", &want, &got)],
+            (_, Err(code)) => vec![format!("reading gives {code}")],
         }
     }
 
     /// As `View::readable`, by the reading functions.
     fn readable(&self, queues: &[&str]) -> Result<Vec<u8>, u8> {
         let state = &self.state;
-        let mut bytes = match accepted(archive::cursor(state))? {
-            None => vec![0],
-            Some(text) => [&[1], &text_of(text.of(state))[..]].concat(),
-        };
-        let (mut records, mut numbers) = (Vec::new(), Vec::new());
-        let mut held = 0;
-        while let Some((name, event)) = accepted(archive::record_at(state, held))? {
-            records.extend(text_of(name.of(state)));
-            records.extend(event.of(state));
-            held += 1;
-        }
-        let mut flying = 0;
-        while let Some(number) = accepted(archive::in_flight_at(state, flying))? {
-            numbers.extend(number.to_be_bytes());
-            flying += 1;
-        }
-        bytes.push(held as u8);
-        bytes.extend(records);
-        bytes.push(flying as u8);
-        bytes.extend(numbers);
+        let cursor = accepted(archive::cursor(state))?;
+        let records = all(|place| archive::record_at(state, place))?;
+        let numbers = all(|place| archive::in_flight_at(state, place))?;
+        let mut bytes = vec![u8::from(cursor.is_some())];
+        bytes.extend(cursor.iter().flat_map(|text| text_of(text.of(state))));
+        bytes.push(records.len() as u8);
+        bytes.extend(records.iter().flat_map(|(name, event)| [&text_of(name.of(state)), event.of(state)].concat()));
+        bytes.push(numbers.len() as u8);
+        bytes.extend(numbers.iter().flat_map(|number| number.to_be_bytes()));
         bytes.push(queues.len() as u8);
         for name in queues {
             bytes.extend(text_of(name.as_bytes()));
@@ -120,30 +113,42 @@ impl Bay {
         }
         Ok(bytes)
     }
+}
 
-    /// What is wrong with the answers to lent buffers of wrong lengths, each longer or shorter than it may be: refusal 1, and nothing written.
-    pub fn lengths(&mut self, frame: &[u8]) -> Vec<String> {
-        let (state, least) = (archive::state_length(), archive::output_length());
-        let lengths = [(state - 1, state, least), (state, state - 1, least), (state, state, least - 1), (0, 0, 0)];
-        self.work.fill(7);
-        self.output.fill(7);
-        let before = self.state.clone();
-        let mut found = Vec::new();
-        for (s, w, o) in lengths {
-            let answer = archive::step(&mut self.state[..s], &mut self.work[..w], &mut self.output[..o], frame);
-            if answer != (LENGTH, 0) {
-                found.push(format!("lengths {s}, {w}, {o}: the answer is {answer:?}"));
-            }
+/// What is wrong with the answers to buffers of wrong lengths: refusal 1, and nothing written.
+pub fn lengths(frame: &[u8]) -> Vec<String> {
+    let (state, output) = (archive::state_length(), archive::output_length());
+    let mut found = Vec::new();
+    for lengths in [
+        [state - 1, state, output],
+        [state + 1, state, output],
+        [state, state - 1, output],
+        [state, state + 1, output],
+        [state, state, output - 1],
+        [0, 0, 0],
+    ] {
+        let mut buffers = lengths.map(|length| vec![7; length]);
+        let before = buffers.clone();
+        let [state, work, output] = &mut buffers;
+        let answer = archive::step(state, work, output, frame);
+        if answer != (LENGTH, 0) || buffers != before {
+            found.push(format!("buffers of {lengths:?} bytes give {answer:?}, or are written"));
         }
-        if self.state != before || self.work.iter().chain(&self.output).any(|b| *b != 7) {
-            found.push("a call with a wrong length wrote into a buffer".to_owned());
-        }
-        found
     }
+    found
 }
 
 fn accepted<T>((code, value): (u8, T)) -> Result<T, u8> {
     if code == 0 { Ok(value) } else { Err(code) }
+}
+
+/// What there is at the places from 0 on.
+fn all<T>(at: impl Fn(usize) -> (u8, Option<T>)) -> Result<Vec<T>, u8> {
+    let mut list = Vec::new();
+    while let Some(value) = accepted(at(list.len()))? {
+        list.push(value);
+    }
+    Ok(list)
 }
 
 /// A text in the frame's form.

@@ -1,7 +1,6 @@
 //! States on the brink of refusal 7: one entry whose notices take about as many bytes as a call's effects may.
 use judge::frames::Rng;
-use judge::limited::EditId;
-use judge::limited::{Conflict, Effect, FieldValue, Notice, Refused, codec, limits};
+use judge::limited::{Conflict, EditId, Effect, FieldValue, Notice, Refused, codec, limits};
 use judge::model::Field;
 use judge::view::{PendingView, View};
 
@@ -10,14 +9,15 @@ const ABOUT: usize = 40;
 
 /// Gives the head of the first queue, if there is one, reports of such a length.
 pub fn to_the_brink(view: &mut View, rng: &mut Rng) {
-    let most = limits::LIMITS[5];
+    let most = limits::limit("absorbed");
     let Some(head) = view.edits.values_mut().next().and_then(|queue| queue.front_mut()) else { return };
     head.absorbed = (0..most).map(|_| EditId::new("f".repeat(rng.below(codec::TEXT + 1)))).collect();
     let ends = limits::EFFECTS + ABOUT - rng.below(2 * ABOUT + 1);
     (head.conflicts, head.refused) = (Vec::new(), Vec::new());
     let empty = notices(head);
     let each = (ends - empty) / (most + 1);
-    head.refused = vec![Refused { field: Field::Attendees, attendee: text(codec::TEXT) }; 29];
+    let part = Refused { field: Field::Attendees, attendee: text(codec::TEXT) };
+    head.refused = vec![part; limits::REFUSED / (3 + codec::TEXT)];
     let refused = (notices(head) - empty) / (most + 1);
     head.conflicts = conflicts(each - refused);
 }

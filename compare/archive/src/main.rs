@@ -36,7 +36,7 @@ struct Comparison {
     layout: Layout,
     bay: Bay,
     tally: Tally,
-    /// The bytes that the last run ended with.
+    /// The state that the last run ended with.
     last: Vec<u8>,
     folder: String,
 }
@@ -61,10 +61,9 @@ fn main() -> ExitCode {
     let mut comparison = Comparison::new(folder);
     for seed in first..=last {
         comparison.seed(seed, steps);
-        if comparison.tally.differences >= TOLD {
-            println!("no more is tried");
-            break;
-        }
+    }
+    if comparison.tally.differences >= TOLD {
+        println!("no more was tried");
     }
     comparison.tally.print(began.elapsed().as_secs());
     ExitCode::from(u8::from(!comparison.tally.good()))
@@ -80,15 +79,17 @@ impl Comparison {
     fn new(folder: String) -> Self {
         let (layout, bay) = (Layout::new(&LIMITS), Bay::new());
         assert_eq!(layout.length, bay.state.len(), "the layout's length and the archive's");
-        assert_eq!(layout.write(&Engine::new(false).view()), bay.state, "the bytes of a fresh state");
+        assert!(layout.write(&Engine::new(false).view()) == bay.state, "the bytes of a fresh state");
         Self { layout, last: bay.state.clone(), bay, tally: Tally::default(), folder }
     }
 
     /// The runs of one seed.
     fn seed(&mut self, seed: u64, steps: usize) {
         let mut rng = Rng::new(seed);
+        let frame = [4];
+        self.told(&format!("seed {seed}, wrong lengths"), &self.last.clone(), &frame, &bay::lengths(&frame));
         let (mut n, mut left) = (0, steps);
-        while left > 0 {
+        while left > 0 && self.tally.differences < TOLD {
             let profile = rng.pick(&PROFILES).name;
             let (kind, start) = if n == 0 { ("fresh", Engine::new(false).view()) } else { random_start(&mut rng) };
             let words = format!("seed {seed}, run {n} ({kind}, {profile})");
@@ -110,9 +111,10 @@ impl Comparison {
         self.tally.runs += 1;
         self.tally.checked += u64::from(run.check);
         if self.steps(run, load(run.check), &bytes, &frames) {
-            self.damages(run, rng, &bytes, &frames);
+            let end = self.bay.state.clone();
+            self.damages(run, rng, &[bytes, end.clone()], &frames);
+            self.last = end;
         }
-        self.last.clone_from(&self.bay.state);
     }
 
     /// Steps through the frames. False at a difference.
@@ -125,17 +127,15 @@ impl Comparison {
                 return false;
             }
         }
-        let mut found = self.bay.reads(Some(&engine.view()));
-        found.extend(self.bay.lengths(&frames[0]));
+        let found = self.bay.reads(Some(&engine.view()));
         let end = self.bay.state.clone();
         self.told(&format!("{}, at its end", run.words), &end, &frames[0], &found)
     }
 
-    /// As many damaged states as the run had steps.
-    fn damages(&mut self, run: &Run, rng: &mut Rng, start: &[u8], frames: &[Vec<u8>]) {
-        let end = self.bay.state.clone();
+    /// As many damaged copies of these states as the run had steps.
+    fn damages(&mut self, run: &Run, rng: &mut Rng, states: &[Vec<u8>], frames: &[Vec<u8>]) {
         for _ in frames {
-            let good = *rng.pick(&[start, &end]);
+            let good = rng.pick(states);
             let Some((kind, bytes)) = damage(&self.layout, rng, good, &self.last) else { continue };
             let words = format!("{}, damaged ({})", run.words, KINDS[kind].0);
             let (frame, reads) = (rng.pick(frames), rng.chance(5));
@@ -192,7 +192,7 @@ impl Comparison {
         fs::write(&file, format!("{digits}\n{}\n", hex(frame))).expect("a file in the folder");
         println!("{words}:\n  {}", found.join("\n  "));
         match state {
-            Some(_) => println!("  head -n 1 {file} | target/compare/judge state --state \"$(tail -n 1 {file})\""),
+            Some(_) => println!("  tail -n 1 {file} | target/compare/judge state --state \"$(head -n 1 {file})\""),
             None => println!("  the state's bytes and the frame are in {file}"),
         }
         false
