@@ -2,22 +2,33 @@
 use judge::frames::Rng;
 use judge::limited::{Conflict, EditId, Effect, FieldValue, Notice, Refused, codec, limits};
 use judge::model::Field;
-use judge::view::{PendingView, View};
+use judge::view::{PendingView, Purpose, View};
 
 /// How far from the limit the notices end at the most. What else a step sends counts too, so the limit is met from both sides.
-const ABOUT: usize = 40;
+const ABOUT: usize = 12;
 
-/// Gives the head of the first queue, if there is one, reports of such a length.
+/// Gives the head of the first queue, if there is one, reports of such a length, and has it written.
 pub fn to_the_brink(view: &mut View, rng: &mut Rng) {
+    let Some((name, queue)) = view.edits.iter_mut().next() else { return };
+    let head = queue.front_mut().expect("no queue is empty");
+    lengthen(head, rng);
+    // Few other requests, so that a random reply is often one to this write.
+    let read = Purpose::EditRead(name.clone());
+    view.in_flight.retain(|_, purpose| matches!(purpose, Purpose::EditRead(_) | Purpose::EditWrite(_)));
+    for purpose in view.in_flight.values_mut().filter(|purpose| **purpose == read) {
+        *purpose = Purpose::EditWrite(name.clone());
+    }
+}
+
+fn lengthen(head: &mut PendingView, rng: &mut Rng) {
     let most = limits::limit("absorbed");
-    let Some(head) = view.edits.values_mut().next().and_then(|queue| queue.front_mut()) else { return };
     head.absorbed = (0..most).map(|_| EditId::new("f".repeat(rng.below(codec::TEXT + 1)))).collect();
     let ends = limits::EFFECTS + ABOUT - rng.below(2 * ABOUT + 1);
     (head.conflicts, head.refused) = (Vec::new(), Vec::new());
     let empty = notices(head);
     let each = (ends - empty) / (most + 1);
     let part = Refused { field: Field::Attendees, attendee: text(codec::TEXT) };
-    head.refused = vec![part; limits::REFUSED / (3 + codec::TEXT)];
+    head.refused = vec![part; (limits::REFUSED - 1) / (3 + codec::TEXT)];
     let refused = (notices(head) - empty) / (most + 1);
     head.conflicts = conflicts(each - refused);
 }
