@@ -14,7 +14,7 @@ use Rattle.model.specs.State.{Queue}
 use Rattle.model.specs.Maps.{if_then_else_, by-name, get, is-some, is-some-and, first}
 use Rattle.model.specs.Formats.{eventF, outcomeF}
 use Rattle.model.specs.Machine.{Machine, ok, _>>=_, match_none:_some:_, queue-of}
-use Rattle.model.specs.Sync.{creates-under-key, head, looks-up, doubtful, doubt, learn, observe, read-for-edit, finish, finish-queue, describe, Answer, answer, answer-failed, read-again, edit-read-found, edit-read-answered, on-edit-read}
+use Rattle.model.specs.Sync.{creates-under-key, head, looks-up, doubtful, doubt, learn, observe, read-for-edit, finish, finish-queue, describe, ReadAnswer, answer, answer-failed, read-again, edit-read-found, edit-read-answered, on-edit-read}
 use Rattle.frame.specs.Read.{Means}
 use Rattle.frame.specs.Meaning.{eventAt, optionEventAt, meantFailure, meantOutcome}
 use Rattle.frame.specs.declared.Cursor.{Cursor}
@@ -100,9 +100,9 @@ rejecting r x m = go (queue-of r m)
 
 module _ (id : RequestId) (r : ResourceId) {w o w′ o′ : List ℕ} {p q : Progress} where
   -- an outcome that is none of those that a read may have
-  pub other : (x : Outcome) → answer x ≡ Answer.Other → Does (finish r (some (Rejection.Provider (describe x)))) w o p q w′ o′ → Does (on-edit-read id r x) w o p q w′ o′
+  pub other : (x : Outcome) → answer x ≡ ReadAnswer.Other → Does (finish r (some (Rejection.Provider (describe x)))) w o p q w′ o′ → Does (on-edit-read id r x) w o p q w′ o′
   unfolding on-edit-read edit-read-answered
-  other x e d = runs.is (on-edit-read id r x) (λ m. rejecting r (some (Rejection.Provider (describe x))) m ∙ sym (ap (λ (a : Answer). edit-read-answered id r x a m) e)) d
+  other x e d = runs.is (on-edit-read id r x) (λ m. rejecting r (some (Rejection.Provider (describe x))) m ∙ sym (ap (λ (a : ReadAnswer). edit-read-answered id r x a m) e)) d
 
   pub other-listed : (frame : List ℕ) (at : ℕ) → Does (finish r (some (Rejection.Provider (describe (meantOutcome frame (outcomes.Listed at)))))) w o p q w′ o′ → Does (on-edit-read id r (meantOutcome frame (outcomes.Listed at))) w o p q w′ o′
   unfolding answer

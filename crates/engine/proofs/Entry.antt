@@ -34,7 +34,7 @@ use Rattle.wellformed.proofs.States.{keeps-of, read-of, is-read}
 use Rattle.machine.specs.declared.Progress.{Progress}
 use Rattle.machine.specs.Contract.{Holds, Ran, Does}
 use Rattle.engine.specs.declared.Answer.{Answer}
-use Rattle.engine.specs.Answers.{lent, answer, fresh, room, Ends, Steps}
+use Rattle.engine.specs.Answers.{lent, returned, fresh, room, Ends, Steps}
 use Rattle.engine.proofs.Laws.{copied, refused-is}
 
 -- ---- which bytes are read as a state
@@ -71,7 +71,7 @@ unfolding leaves
 leaves-same code s e w o w′ o′ x y a b = rw (a, b)
 
 module _ (s w o w′ o′ : List ℕ) (q : Progress) (a : Answer) (s″ w″ o″ : List ℕ) (lw : length w′ ≡ length w) (lo : length o′ ≡ length o) (E : Ends q s w′ o′ a s″ w″ o″) where
-  ran-answered : (r : Run) → Ran r q w′ (room o′) → answer a s″ w″ o″ ≡ answered document01 (lent s w o) (stepped r)
+  ran-answered : (r : Run) → Ran r q w′ (room o′) → returned a s″ w″ o″ ≡ answered document01 (lent s w o) (stepped r)
   unfolding Ran answered stepped max-effects
   ran-answered (Run.refused n) h =
       E .refused (λ z. h .1 (sym (h .0) ∙ z)) ∙ ap (λ (c : ℕ). leaves c s [] (lent s w′ o′)) (h .0) ∙ leaves-same n s [] w o w′ o′ s s lw lo
@@ -120,25 +120,25 @@ as-long s w w₁ w′ H l a b = H .keeps .long ∙ sym (b ∙ a ∙ l)
 
 module _ (s w o frame : List ℕ) where
   -- refusal 1
-  pub wrong-lengths : (a : Answer) → a .code ≡ 1 → a .length ≡ 0 → false ≡ lengths-right document01 (lent s w o) → answer a s w o ≡ entry document01 (lent s w o) frame
+  pub wrong-lengths : (a : Answer) → a .code ≡ 1 → a .length ≡ 0 → false ≡ lengths-right document01 (lent s w o) → returned a s w o ≡ entry document01 (lent s w o) frame
   unfolding entry if_then_else_
   wrong-lengths a e h l = rw (← l, e, h)
 
   -- refusal 2
   pub no-state : (a : Answer) (w′ o′ : List ℕ) → true ≡ lengths-right document01 (lent s w o) → (IsState s → ⊥)
-      → (a .code ≡ 2) × (a .length ≡ 0) × (w′ ≡ zeros (length w)) × (o′ ≡ zeros (length o)) → answer a s w′ o′ ≡ entry document01 (lent s w o) frame
+      → (a .code ≡ 2) × (a .length ≡ 0) × (w′ ≡ zeros (length w)) × (o′ ≡ zeros (length o)) → returned a s w′ o′ ≡ entry document01 (lent s w o) frame
   unfolding entry if_then_else_ match_none:_some:_
   no-state a w′ o′ l n e = rw (← l, not-read s n) (refused-is a 2 s w o w′ o′ (e .0) (e .1) (e .2) (e .3))
 
   -- refusal 3
   pub no-frame : (a : Answer) (w′ o′ : List ℕ) → true ≡ lengths-right document01 (lent s w o) → IsState s → none ≡ wholeOf inputF frame
-      → (a .code ≡ 3) × (a .length ≡ 0) × (w′ ≡ zeros (length w)) × (o′ ≡ zeros (length o)) → answer a s w′ o′ ≡ entry document01 (lent s w o) frame
+      → (a .code ≡ 3) × (a .length ≡ 0) × (w′ ≡ zeros (length w)) × (o′ ≡ zeros (length o)) → returned a s w′ o′ ≡ entry document01 (lent s w o) frame
   unfolding entry if_then_else_ match_none:_some:_ decode step-frame answered
   no-frame a w′ o′ l I d e = rw (← l, read-of I, ← d) (refused-is a 3 s w o w′ o′ (e .0) (e .1) (e .2) (e .3))
 
   -- the frame is an input
   pub entered : (a : Answer) (i : Input) (s′ w′ o′ : List ℕ) → true ≡ lengths-right document01 (lent s w o) → IsState s → some i ≡ wholeOf inputF frame
-      → Steps i s w o a s′ w′ o′ → answer a s′ w′ o′ ≡ entry document01 (lent s w o) frame
+      → Steps i s w o a s′ w′ o′ → returned a s′ w′ o′ ≡ entry document01 (lent s w o) frame
   unfolding entry if_then_else_ match_none:_some:_ decode step-frame
   entered a i s′ w′ o′ l I d S = S .is (I .state) (keeps-of I) ∙ rw (← l, read-of I, ← d)
 

@@ -11,14 +11,14 @@ use borrow.Author.Tests.{eq-eqb, ne-eqb}
 use Rattle.spans.specs.Bytes.{zeros}
 use Rattle.spans.proofs.Laws.{tail-mid, tail-put}
 use Rattle.model.specs.Limits.{document01, max-effects}
-use Rattle.model.specs.Sizes.{state-length}
+use Rattle.model.specs.Sizes.{buffer-length}
 use Rattle.model.specs.Entry.{Lent, lengths-right, leaves}
 use Rattle.model.specs.Entry as model
 use Rattle.model.proofs.Sizes.{document01-length}
 use Rattle.model.proofs.Tables.{and-left, and-right}
 use Rattle.machine.specs.declared.Progress.{Progress}
 use Rattle.engine.specs.declared.Answer.{Answer}
-use Rattle.engine.specs.Answers.{lent, answer, Ends}
+use Rattle.engine.specs.Answers.{lent, returned, Ends}
 
 -- ---- the lengths
 
@@ -36,10 +36,10 @@ module _ (s w o : List ℕ) where
   by-output e h = rw (document01-length, eq-eqb (length s) 58543 e, eq-eqb (length w) 58543 h)
 
   abbrev same-state : Bool
-  same-state = eqb (length s) (state-length document01)
+  same-state = eqb (length s) (buffer-length document01)
 
   abbrev same-work : Bool
-  same-work = eqb (length w) (state-length document01)
+  same-work = eqb (length w) (buffer-length document01)
 
   abbrev enough : Bool
   enough = leb max-effects (length o)
@@ -47,7 +47,7 @@ module _ (s w o : List ℕ) where
   pub right-work : true ≡ lengths-right document01 (lent s w o) → length w ≡ 58543
   unfolding lengths-right
   right-work e =
-      eqb→eq (length w) (state-length document01) (and-left same-work enough (and-right same-state (same-work && enough) (subst T e tt)))
+      eqb→eq (length w) (buffer-length document01) (and-left same-work enough (and-right same-state (same-work && enough) (subst T e tt)))
       ∙ document01-length
 
   pub right-out : true ≡ lengths-right document01 (lent s w o) → 32768 ≤ length o
@@ -70,14 +70,14 @@ copied dst src e =
     ap (λ (l : List ℕ). src ++ l) (drop-of-length-le dst {i = length src} h) ∙ append-nil src
 
 pub refused-is : (r : Answer) (code : ℕ) (s w o w′ o′ : List ℕ) → r .code ≡ code → r .length ≡ 0 → w′ ≡ zeros (length w) → o′ ≡ zeros (length o)
-    → answer r s w′ o′ ≡ leaves code s [] (lent s w o)
+    → returned r s w′ o′ ≡ leaves code s [] (lent s w o)
 unfolding leaves
 refused-is r code s w o w′ o′ a b e h =
     let k : length o - 0 ≡ length o = omega arith in
     rw (a, b, e, h, k)
 
 pub accepted-is : (r : Answer) (at : ℕ) (s w o s′ w′ o′ : List ℕ) → at ≤ length o → r .code ≡ 0 → r .length ≡ at → s′ ≡ w → w′ ≡ zeros (length w) → o′ ≡ take at o ++ zeros (length o - at)
-    → answer r s′ w′ o′ ≡ leaves 0 w (take at o) (lent s w o)
+    → returned r s′ w′ o′ ≡ leaves 0 w (take at o) (lent s w o)
 unfolding leaves
 accepted-is r at s w o s′ w′ o′ l a b d e h =
     let k : length (take at o) ≡ at = length-take-le at o l in

@@ -13,8 +13,8 @@ use Rattle.model.specs.Machine.{match_none:_some:_}
 use Rattle.model.specs.Sync.{Stepped, step}
 use Rattle.model.specs.WellFormed.{WellFormed}
 use Rattle.model.specs.Layout.{stateBytes}
-use Rattle.model.specs.Entry.{Lent, Answer, IsState, lengths-right, read-state, decode, step-frame, leaves, answered, entry}
-use Rattle.model.specs.Demands.{Call, lend, call, state-after, after-calls, answer-of, bytes-after}
+use Rattle.model.specs.Entry.{Lent, Returned, WellFormedBytes, lengths-right, read-state, decode, step-frame, leaves, answered, entry}
+use Rattle.model.specs.Demands.{Call, lend, call, state-after, after-calls, answer-of, bytes-after-calls}
 use Rattle.model.proofs.Theorems as model
 use Rattle.engine.specs.Demands.{Called, Demand1, Demand2, Linked, left, plain, Answers, Meets}
 
@@ -39,10 +39,10 @@ pub demand-1 : (c : Called) → Demand1 c
 demand-1 c =
     let d = model.demand-1 document01 (c .lent) (c .frame) in
     record {
-      refused = λ n. ap (λ (a : Answer). a .lent .state) (c .is) ∙ d .refused (λ z. n (ap (λ (a : Answer). a .code) (c .is) ∙ z));
-      accepted = λ z. subst (λ (a : Answer). IsState document01 (a .lent .state)) (sym (c .is)) (d .accepted (sym (ap (λ (a : Answer). a .code) (c .is)) ∙ z));
+      refused = λ n. ap (λ (a : Returned). a .lent .state) (c .is) ∙ d .refused (λ z. n (ap (λ (a : Returned). a .code) (c .is) ∙ z));
+      accepted = λ z. subst (λ (a : Returned). WellFormedBytes document01 (a .lent .state)) (sym (c .is)) (d .accepted (sym (ap (λ (a : Returned). a .code) (c .is)) ∙ z));
       others = λ s w i v s′ effects e l b f.
-          ap (λ (a : Answer). a .code) (demand-2 c s w i v .same l b f) ∙ done-code (c .lent) (step document01 s i) s′ effects e;
+          ap (λ (a : Returned). a .code) (demand-2 c s w i v .same l b f) ∙ done-code (c .lent) (step document01 s i) s′ effects e;
     }
 
 -- lent the state's bytes, it answers what the model's call gives
@@ -55,9 +55,9 @@ one c s w e =
 -- and leaves the bytes of the model's next state
 after : (c : Called) (s : SyncState) → WellFormed document01 s → c .lent .state ≡ stateBytes document01 .enc s
     → c .answer .lent .state ≡ stateBytes document01 .enc (state-after s (call document01 s (plain c)))
-unfolding bytes-after after-calls lend
+unfolding bytes-after-calls after-calls lend
 after c s w e =
-    ap (λ (a : Answer). a .lent .state) (one c s w e ∙ sym (model.entry-calls document01 s w .one (plain c)))
+    ap (λ (a : Returned). a .lent .state) (one c s w e ∙ sym (model.entry-calls document01 s w .one (plain c)))
     ∙ model.entry-calls document01 s w .list (plain c ∷ [])
 
 all-answer : (bytes : Bytes) (s : SyncState) → WellFormed document01 s → bytes ≡ stateBytes document01 .enc s → (calls : List Called) → Linked bytes calls → Answers s calls
@@ -76,7 +76,7 @@ ends-at bytes s w e (c ∷ calls) h =
     ends-at (c .answer .lent .state) (state-after s (call document01 s (plain c))) (model.stays-well-formed document01 s w (plain c)) (after c s w (h .0 ∙ e)) calls (h .1)
 
 -- from the bytes of any well-formed state, whatever is lent and whatever the frames are
-pub demand-3 : (bytes : Bytes) (I : IsState document01 bytes) (calls : List Called) → Linked bytes calls → Meets bytes (I .state) calls
+pub demand-3 : (bytes : Bytes) (I : WellFormedBytes document01 bytes) (calls : List Called) → Linked bytes calls → Meets bytes (I .state) calls
 demand-3 bytes I calls h = record {
   answers = all-answer bytes (I .state) (I .well) (I .is) calls h;
   end = ends-at bytes (I .state) (I .well) (I .is) calls h;

@@ -18,17 +18,17 @@ abbrev pub lent : List ℕ → List ℕ → List ℕ → Lent
 lent state work out = record { state = state; work = work; out = out }
 
 -- the answer beside the buffers as the call leaves them
-abbrev pub answer : Answer → List ℕ → List ℕ → List ℕ → model.Answer
-answer r state work out = record { code = r .code; length = r .length; lent = lent state work out }
+abbrev pub returned : Answer → List ℕ → List ℕ → List ℕ → model.Returned
+returned r state work out = record { code = r .code; length = r .length; lent = lent state work out }
 
 -- how a step ends that came so far: refused, the state stays; else the work buffer is the state, and the output holds the effects
 pub record Ends (p : Progress) (s w o : List ℕ) (r : Answer) (s′ w′ o′ : List ℕ) : Type 0 where
-  pub refused : (p .code ≡ 0 → ⊥) → answer r s′ w′ o′ ≡ leaves (p .code) s [] (lent s w o)
-  pub accepted : p .code ≡ 0 → answer r s′ w′ o′ ≡ leaves 0 w (take (p .at) o) (lent s w o)
+  pub refused : (p .code ≡ 0 → ⊥) → returned r s′ w′ o′ ≡ leaves (p .code) s [] (lent s w o)
+  pub accepted : p .code ≡ 0 → returned r s′ w′ o′ ≡ leaves 0 w (take (p .at) o) (lent s w o)
 
 -- a step on the state that the buffer holds
 pub record Steps (i : Input) (s w o : List ℕ) (r : Answer) (s′ w′ o′ : List ℕ) : Type 0 where
-  pub is : (state : SyncState) → Keeps state s → answer r s′ w′ o′ ≡ answered document01 (lent s w o) (step document01 state i)
+  pub is : (state : SyncState) → Keeps state s → returned r s′ w′ o′ ≡ answered document01 (lent s w o) (step document01 state i)
 
 -- a step that has done nothing yet
 abbrev pub fresh : Progress

@@ -11,7 +11,7 @@ use Rattle.model.specs.Formats.{Bytes, inputF}
 use Rattle.model.specs.Sync.{Stepped, step}
 use Rattle.model.specs.WellFormed.{WellFormed}
 use Rattle.model.specs.Layout.{stateBytes}
-use Rattle.model.specs.Entry.{Lent, Answer, IsState, lengths-right, answered, entry}
+use Rattle.model.specs.Entry.{Lent, Returned, WellFormedBytes, lengths-right, answered, entry}
 use Rattle.model.specs.Demands.{Call, call, state-after, after-calls, answer-of, Demand3}
 
 -- a call of `step`
@@ -19,7 +19,7 @@ pub record Called : Type 0 where
   pub lent : Lent
   pub frame : Bytes
   -- what it answered, and the buffers as it left them
-  pub answer : Answer
+  pub answer : Returned
   -- what `step` ensures
   pub is : answer ≡ entry document01 lent frame
 
@@ -29,7 +29,7 @@ pub record Demand1 (c : Called) : Type 0 where
   -- a refused call keeps the state
   pub refused : (c .answer .code ≡ 0 → ⊥) → c .answer .lent .state ≡ c .lent .state
   -- an accepted one leaves a well-formed state
-  pub accepted : c .answer .code ≡ 0 → IsState document01 (c .answer .lent .state)
+  pub accepted : c .answer .code ≡ 0 → WellFormedBytes document01 (c .answer .lent .state)
   -- right lengths, a well-formed state, an input and a step that the definitions do not refuse: it is accepted
   pub others : (s : SyncState) → WellFormed document01 s → (i : Input) → inputF .Ok i → (s′ : SyncState) (effects : List Effect) → step document01 s i ≡ Stepped.Done s′ effects
       → T (lengths-right document01 (c .lent)) → c .lent .state ≡ stateBytes document01 .enc s → c .frame ≡ inputF .enc i → c .answer .code ≡ 0

@@ -14,7 +14,7 @@ ghost use Rattle.model.specs.Entry.{lengths-right, entry};
 ghost use Rattle.frame.specs.Meaning.{meantInput};
 ghost use Rattle.state.specs.Contract.{HasState};
 ghost use Rattle.machine.specs.Contract.{Does};
-ghost use Rattle.engine.specs.Answers.{lent, answer, fresh, Ends, Steps};
+ghost use Rattle.engine.specs.Answers.{lent, returned, fresh, Ends, Steps};
 
 pub struct Answer {
     // 0, or the refusal's number
@@ -106,7 +106,7 @@ fn run(state: &mut [u8], work: &mut [u8], out: &mut [u8], frame: &[u8], input: I
 
 // fn step: one call. The checks run 1, 2, 3.
 pub fn step(state: &mut [u8], work: &mut [u8], out: &mut [u8], frame: &[u8]) -> Answer
-    ensures { λ r. ⌜ answer r (now (state .exit)) (now (work .exit)) (now (out .exit)) ≡ entry document01 (lent (now (state .entry)) (now (work .entry)) (now (out .entry))) (now (frame .entry)) ⌝ }
+    ensures { λ r. ⌜ returned r (now (state .exit)) (now (work .exit)) (now (out .exit)) ≡ entry document01 (lent (now (state .entry)) (now (work .entry)) (now (out .entry))) (now (frame .entry)) ⌝ }
 {
     if !lengths_right(state, work, out) {
         return Answer { code: 1, length: 0 };

@@ -16,7 +16,7 @@ use Rattle.model.specs.Parts.{Field, FieldValue}
 use Rattle.model.specs.Shapes.{attendeeRoleFrom, participationFrom, kindFrom}
 use Rattle.model.specs.Maps.{if_then_else_, same-text}
 use Rattle.model.specs.Formats.{same, shortText, attendeeRoleF, participationF, kindF, attendeeF, fieldF, fieldValueF, conflictF, refusedF}
-use Rattle.model.specs.Merge.{Merged, verdict, kept, conflicting, refusing, merge-part, with-participation, rest, display-address, whole-entry, own-removed, own-reply, own-standing, own-entry}
+use Rattle.model.specs.Merge.{Merged, verdict, unreported, conflicting, refusing, merge-part, with-participation, rest, display-address, whole-entry, own-removed, own-reply, own-standing, own-entry}
 use Rattle.model.proofs.ValidParts.{none-ok, some-ok, ok-some}
 use Rattle.comparison.specs.Bytes.{meantVerdict, verdictOf, isOurs, isConflict, isRefused}
 use Rattle.comparison.specs.declared.Verdict.{Verdict}
@@ -29,8 +29,8 @@ use Rattle.merge.proofs.Items.{encs, one-item, one-of, one-same, items}
 
 -- a part that is judged so
 abbrev pub judged : {A : Type 0} → Verdict → (A → FieldValue) → Field → Option Text → A → A → A → Merged A
-judged Theirs value field attendee b o t = kept t
-judged Ours value field attendee b o t = kept o
+judged Theirs value field attendee b o t = unreported t
+judged Ours value field attendee b o t = unreported o
 judged Conflict value field attendee b o t = conflicting field attendee (value b) (value o) (value t) t
 judged Refused value field attendee b o t = refusing field attendee t
 
@@ -202,7 +202,7 @@ module _ (which : ℕ) (x y z : Option Attendee) (p : option attendeeF .Ok x) (q
   entry-by : (v : Verdict) → one-of which (entryValueItems (cond (isOurs v) (entryEnc y) (entryEnc z)) (cond (isOurs v) (replyOf (entryEnc y)) (replyOf (entryEnc z))))
       (cond (isConflict v) (entryConflict (entryEnc x) (entryEnc y) (entryEnc z) ∷ []) []) (cond (isRefused v) (entryRefused (entryEnc x) (entryEnc y) (entryEnc z) ∷ []) [])
       ≡ items which one-item (judged v FieldValue.Attendee Field.Attendees (some (display-address x y z)) x y z)
-  unfolding kept conflicting refusing
+  unfolding unreported conflicting refusing
   entry-by Theirs = one-same which (value-enc z) refl refl
   entry-by Ours = one-same which (value-enc y) refl refl
   entry-by Conflict = one-same which (value-enc z) (ap (λ (t : List ℕ). t ∷ []) (conflict-enc x y z p q r)) refl
@@ -261,10 +261,10 @@ unowned b o t = refl
 
 -- the reply, judged
 abbrev replied : Verdict → Attendee → Attendee → Attendee → Merged Participation
-replied Theirs b o t = kept (t .participation)
-replied Ours b o t = kept (o .participation)
+replied Theirs b o t = unreported (t .participation)
+replied Ours b o t = unreported (o .participation)
 replied Conflict b o t = conflicting Field.Attendees (some (t .address)) (FieldValue.Attendee (some b)) (FieldValue.Attendee (some o)) (FieldValue.Attendee (some t)) (t .participation)
-replied Refused b o t = kept (t .participation)
+replied Refused b o t = unreported (t .participation)
 
 reply-by : (b o t : Attendee) (v : Verdict) → meantVerdict v ≡ verdict participationF (b .participation) (o .participation) (t .participation) true → own-reply b o t ≡ replied v b o t
 unfolding own-reply
@@ -301,7 +301,7 @@ module _ (which : ℕ) (b o t : Attendee) (p : attendeeF .Ok b) (q : attendeeF .
       (one-item (some (with-participation (replied v b o t .value) (the-rest (cond c Theirs Refused) .value))))
       (encs (conflictF .enc) (the-rest (cond c Theirs Refused) .conflicts ++ replied v b o t .conflicts))
       (encs (refusedF .enc) (the-rest (cond c Theirs Refused) .refused ++ replied v b o t .refused))
-  unfolding kept conflicting refusing rest with-participation display-address
+  unfolding unreported conflicting refusing rest with-participation display-address
   by-both true Theirs = one-same which (value-with t (t .participation)) refl refl
   by-both true Ours = one-same which (value-with t (o .participation)) refl refl
   by-both true Conflict = one-same which (value-with t (t .participation)) clashes refl

@@ -12,7 +12,7 @@ use Rattle.model.specs.Parts.{Role, Field, FieldValue}
 use Rattle.model.specs.Limits.{max-attendees}
 use Rattle.model.specs.Shapes.{fieldFrom}
 use Rattle.model.specs.Formats.{shortText, tag, organizerF, attendeeF, statusF, transparencyF, visibilityF, fieldsF, fieldF, fieldValueF, conflictF, refusedF}
-use Rattle.model.specs.Merge.{Merged, kept, conflicting, refusing, merge-part, is-owner, Key, Keyed, keyed, entry-at, extend, entries-at, key-order, merge-attendees, merge}
+use Rattle.model.specs.Merge.{Merged, unreported, conflicting, refusing, merge-part, is-owner, Key, Keyed, keyed, entry-at, extend, entries-at, key-order, merge-attendees, merge}
 use Rattle.model.proofs.MergeKeys.{order-length, length-keyed}
 use Rattle.frame.specs.Read.{start}
 use Rattle.comparison.specs.Bytes.{verdictOf}
@@ -33,7 +33,7 @@ module _ {A : Type 0} (which : ℕ) (f : Format A) (value : A → FieldValue) (f
 
   by-verdict : (v : Verdict) → one-of which (valueItem v (f .enc o) (f .enc t) ∷ []) (conflictItems v (fieldFrom field) (f .enc b) (f .enc o) (f .enc t)) (refusedItems v (fieldFrom field))
       ≡ items which one (judged v value field none b o t)
-  unfolding kept conflicting refusing conflictF refusedF fieldF option via _⊗_ enum _∣_ nothing below
+  unfolding unreported conflicting refusing conflictF refusedF fieldF option via _⊗_ enum _∣_ nothing below
   by-verdict Theirs = refl
   by-verdict Ours = refl
   by-verdict Conflict = one-same which refl (rw (is b, is o, is t)) refl
@@ -219,7 +219,7 @@ module _ {owner : Bool} {me : Text} {role : Role} (W : Writes owner me role) {ba
 -- there are at most as many attendees as keys
 
 entries-few : (role : Role) (b o t : Keyed) (ks : List Key) → length (entries-at role b o t ks .value) ≤ length ks
-unfolding entries-at kept extend
+unfolding entries-at unreported extend
 entries-few role b o t [] = omega arith
 entries-few role b o t (k ∷ ks) = go (entry-at role b o t k .value) (entries-few role b o t ks)
   where

@@ -16,7 +16,7 @@ use Rattle.model.specs.Parts.{Role}
 use Rattle.model.specs.Limits.{max-attendees}
 use Rattle.model.specs.Maps.{if_then_else_, map, filter, is-some}
 use Rattle.model.specs.Formats.{attendeeF, conflictF, refusedF}
-use Rattle.model.specs.Merge.{Merged, kept, to-ascii-lowercase, Key, Keyed, key-of, keyed-after, keyed, find, is-own, is-owner, entry-at, extend, entries-at, key-order, merge-attendees}
+use Rattle.model.specs.Merge.{Merged, unreported, to-ascii-lowercase, Key, Keyed, key-of, keyed-after, keyed, find, is-own, is-owner, entry-at, extend, entries-at, key-order, merge-attendees}
 use Rattle.model.proofs.MergeKeys.{keys, keys-append, entries-keyed}
 use Rattle.model.proofs.MergeReports.{find-ok}
 use Rattle.frame.specs.Read.{start}
@@ -104,7 +104,7 @@ module _ (which : ℕ) (role : Role) (b o t : Keyed) where
   extend-encs (some a) l = refl
 
   pub items-are : (ks : List Key) → items-at ks ≡ items which (encs (attendeeF .enc)) (entries-at role b o t ks)
-  unfolding entries-at kept
+  unfolding entries-at unreported
   items-are [] = sym (one-none which)
   items-are (k ∷ ks) =
       ap (λ (r : List (List ℕ)). items which one-item (entry-at role b o t k) ++ r) (items-are ks)

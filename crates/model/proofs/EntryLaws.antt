@@ -18,8 +18,8 @@ use Rattle.model.specs.Machine.{match_none:_some:_}
 use Rattle.model.specs.Sync.{Stepped}
 use Rattle.model.specs.WellFormed.{WellFormed}
 use Rattle.model.specs.Layout.{stateBytes}
-use Rattle.model.specs.Entry.{Lent, Answer, IsState, lengths-right, read-state, decode, step-frame, leaves, answered, entry}
-use Rattle.model.specs.Demands.{Call, lend, call, state-after, after-calls, answer-of, bytes-after, Demand1, EveryCall, SameCalls, EntryCalls}
+use Rattle.model.specs.Entry.{Lent, Returned, WellFormedBytes, lengths-right, read-state, decode, step-frame, leaves, answered, entry}
+use Rattle.model.specs.Demands.{Call, lend, call, state-after, after-calls, answer-of, bytes-after-calls, Demand1, EveryCall, SameCalls, EntryCalls}
 use Rattle.model.proofs.Bytes.{accepted}
 use Rattle.model.proofs.LayoutLaws.{stateBytes-law, state-there, state-back}
 use Rattle.model.proofs.StaysWellFormed.{stays-well-formed, step-well-formed}
@@ -35,11 +35,11 @@ states-exact limits bytes s =
 -- ---- demand 1
 
 module _ (limits : Limits) (lent : Lent) (frame : Bytes) where
-  abbrev Kept : Answer → Type 0
+  abbrev Kept : Returned → Type 0
   Kept a = (a .code ≡ 0 → ⊥) → a .lent .state ≡ lent .state
 
-  abbrev Well : Answer → Type 0
-  Well a = a .code ≡ 0 → IsState limits (a .lent .state)
+  abbrev Well : Returned → Type 0
+  Well a = a .code ≡ 0 → WellFormedBytes limits (a .lent .state)
 
   kept-answer : (r : Stepped) → Kept (answered limits lent r)
   unfolding answered leaves
@@ -83,7 +83,7 @@ demand-1 limits lent frame = record {
 -- ---- the calls of the entry are the calls of the engine
 
 module _ (limits : Limits) where
-  abbrev untouched : Lent → Answer
+  abbrev untouched : Lent → Returned
   untouched lent = record { code = 1; length = 0; lent = lent }
 
   one-of : (lent : Lent) (frame : Bytes) (s : SyncState) (b : Bool) (o : Option SyncState) → o ≡ some s
@@ -108,13 +108,13 @@ module _ (limits : Limits) where
   left lent s true (Stepped.Done s′ out) e = refl
   left lent s false r e = e
 
-  list-of : (s : SyncState) → WellFormed limits s → (calls : List Call) → bytes-after limits (stateBytes limits .enc s) calls ≡ stateBytes limits .enc (after-calls limits s calls)
-  unfolding bytes-after after-calls answer-of call lend
+  list-of : (s : SyncState) → WellFormed limits s → (calls : List Call) → bytes-after-calls limits (stateBytes limits .enc s) calls ≡ stateBytes limits .enc (after-calls limits s calls)
+  unfolding bytes-after-calls after-calls answer-of call lend
   list-of s w [] = refl
   list-of s w (c ∷ cs) =
       let e : entry limits (lend limits s c) (c .frame) .lent .state ≡ stateBytes limits .enc (state-after s (call limits s c)) =
-      ap (λ (a : Answer). a .lent .state) (one s w c) ∙ left (lend limits s c) s (lengths-right limits (lend limits s c)) (step-frame limits s (decode (c .frame))) refl in
-      ap (λ (b : Bytes). bytes-after limits b cs) e ∙ list-of (state-after s (call limits s c)) (stays-well-formed limits s w c) cs
+      ap (λ (a : Returned). a .lent .state) (one s w c) ∙ left (lend limits s c) s (lengths-right limits (lend limits s c)) (step-frame limits s (decode (c .frame))) refl in
+      ap (λ (b : Bytes). bytes-after-calls limits b cs) e ∙ list-of (state-after s (call limits s c)) (stays-well-formed limits s w c) cs
 
 pub entry-calls : EntryCalls
 entry-calls limits s w = record { one = one limits s w; list = list-of limits s w }

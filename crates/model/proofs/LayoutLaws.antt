@@ -19,7 +19,7 @@ use Rattle.model.specs.Machine.{sum}
 use Rattle.model.specs.Shapes.{passTo, passFrom, stateTo, stateFrom}
 use Rattle.model.specs.Formats.{resourceId, shortText, u64, eventF, listFromF, operationF, roleF, conflictsF, refusalsF, editF}
 use Rattle.model.specs.SavedForm.{stagedF, purposeF, passF, pendingF, queueF, stateF}
-use Rattle.model.specs.Sizes.{id-bytes, text-bytes, event-bytes, operation-bytes, option-bytes, time-bytes, edit-bytes, purpose-bytes, absorbed-bytes, entry-bytes, staged-bytes, pass-bytes, state-length}
+use Rattle.model.specs.Sizes.{id-bytes, text-bytes, event-bytes, operation-bytes, option-bytes, time-bytes, edit-bytes, purpose-bytes, absorbed-bytes, entry-bytes, staged-bytes, pass-bytes, buffer-length}
 use Rattle.model.specs.WellFormed.{all, rising, every, entry-rules, queue-rules, rules, WellFormed}
 use Rattle.model.specs.Layout.{table, nameKey, numberKey, passBytes, entryTo, entryFrom, entryBytes, entries-of, put-first, queues-of, queuesBytes, partsBytes, stateBytes}
 use Rattle.model.proofs.FormatsLaws.{resourceId-law, shortText-law, u64-law, eventF-law, listFromF-law, operationF-law, roleF-law, conflictsF-law, refusalsF-law}
@@ -155,8 +155,8 @@ module _ (limits : Limits) where
   unfolding queuesBytes
   queuesBytes-exactly = record { bytes = λ m ok. table-exactly (limits .waiting) (entry-bytes limits) (entryBytes limits) .bytes (entries-of m) (ok .0) }
 
-  stateBytes-exactly : Exactly (state-length limits) (stateBytes limits)
-  unfolding stateBytes partsBytes state-length
+  stateBytes-exactly : Exactly (buffer-length limits) (stateBytes limits)
+  unfolding stateBytes partsBytes buffer-length
   stateBytes-exactly =
       exactly-is _ (omega arith)
       (such-exactly _ (via-exactly stateTo stateFrom (
@@ -432,5 +432,5 @@ module _ (limits : Limits) where
         ruled = t;
       }
 
-  pub state-long : (s : SyncState) → WellFormed limits s → length (stateBytes limits .enc s) ≡ state-length limits
+  pub state-long : (s : SyncState) → WellFormed limits s → length (stateBytes limits .enc s) ≡ buffer-length limits
   state-long s w = stateBytes-exactly limits .bytes s (state-there s w)

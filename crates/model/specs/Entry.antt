@@ -12,7 +12,7 @@ use Rattle.model.specs.State.{SyncState}
 use Rattle.model.specs.Limits.{Limits, max-effects}
 use Rattle.model.specs.Maps.{if_then_else_}
 use Rattle.model.specs.Formats.{Bytes, inputF, enc-effects}
-use Rattle.model.specs.Sizes.{state-length}
+use Rattle.model.specs.Sizes.{buffer-length}
 use Rattle.model.specs.WellFormed.{WellFormed}
 use Rattle.model.specs.Layout.{stateBytes}
 use Rattle.model.specs.Machine.{match_none:_some:_}
@@ -24,7 +24,7 @@ pub record Lent : Type 0 where
   pub work : Bytes
   pub out : Bytes
 
-pub record Answer : Type 0 where
+pub record Returned : Type 0 where
   -- 0, or the refusal's number
   pub code : ℕ
   -- how many bytes of the output the effects take
@@ -35,11 +35,11 @@ pub record Answer : Type 0 where
 -- state and work have the one fixed length, the output at least 32,768
 unfoldable pub lengths-right : Limits → Lent → Bool
 lengths-right limits lent =
-    eqb (ListN.length (lent .state)) (state-length limits) && (eqb (ListN.length (lent .work)) (state-length limits)
+    eqb (ListN.length (lent .state)) (buffer-length limits) && (eqb (ListN.length (lent .work)) (buffer-length limits)
     && leb max-effects (ListN.length (lent .out)))
 
 -- the bytes are those of a well-formed state
-pub record IsState (limits : Limits) (bytes : Bytes) : Type 0 where
+pub record WellFormedBytes (limits : Limits) (bytes : Bytes) : Type 0 where
   pub state : SyncState
   pub well : WellFormed limits state
   pub is : bytes ≡ stateBytes limits .enc state
@@ -57,7 +57,7 @@ step-frame limits s none = Stepped.Refused 3
 step-frame limits s (some input) = step limits s input
 
 -- after every call but one refused with 1: work is zero, and the output past the effects
-unfoldable pub leaves : ℕ → Bytes → Bytes → Lent → Answer
+unfoldable pub leaves : ℕ → Bytes → Bytes → Lent → Returned
 leaves code state effects lent = record {
   code = code;
   length = ListN.length effects;
@@ -68,12 +68,12 @@ leaves code state effects lent = record {
   };
 }
 
-unfoldable pub answered : Limits → Lent → Stepped → Answer
+unfoldable pub answered : Limits → Lent → Stepped → Returned
 answered limits lent (Stepped.Refused n) = leaves n (lent .state) [] lent
 answered limits lent (Stepped.Done s out) = leaves 0 (stateBytes limits .enc s) (enc-effects out) lent
 
 -- checks run 1, 2, 3; refusal 1 touches nothing
-unfoldable pub entry : Limits → Lent → Bytes → Answer
+unfoldable pub entry : Limits → Lent → Bytes → Returned
 entry limits lent frame =
     if lengths-right limits lent
     then (match read-state limits (lent .state)

@@ -8,7 +8,7 @@ use machine::Progress;
 use names::Name;
 ghost use mathlib.Core.Option.{none};
 ghost use Rattle.format.specs.Format.{option};
-ghost use Rattle.model.specs.Sync.{Answer, answer-failed, refresh-answered, on-refresh};
+ghost use Rattle.model.specs.Sync.{ReadAnswer, answer-failed, refresh-answered, on-refresh};
 ghost use Rattle.model.specs.Formats.{eventF, outcomeF};
 ghost use Rattle.frame.specs.Meaning.{optionEventAt, meantFailure, meantOutcome};
 ghost use Rattle.state.specs.Contract.{HasState};
@@ -26,7 +26,7 @@ fn refresh_read(
 ) -> Progress
     requires { ⌜ HasState (now work) ⌝ }
     requires { ⌜ (Named (name .bytes)) × (option eventF .Ok (optionEventAt (now frame) at)) ⌝ }
-    ensures { λ r. ⌜ Does (refresh-answered id (name-of (name .bytes)) (Answer.Found (optionEventAt (now (frame .entry)) at))) (now (work .entry)) (now (out .entry)) p r (now (work .exit)) (now (out .exit)) ⌝ }
+    ensures { λ r. ⌜ Does (refresh-answered id (name-of (name .bytes)) (ReadAnswer.Found (optionEventAt (now (frame .entry)) at))) (now (work .entry)) (now (out .entry)) p r (now (work .exit)) (now (out .exit)) ⌝ }
 {
     if machine::doubtful(work, id, name) {
         return doubt(work, out, p, name);
@@ -37,7 +37,7 @@ fn refresh_read(
 fn refresh_gone(work: &mut [u8], out: &mut [u8], p: Progress, id: u64, name: Name) -> Progress
     requires { ⌜ HasState (now work) ⌝ }
     requires { ⌜ Named (name .bytes) ⌝ }
-    ensures { λ r. ⌜ Does (refresh-answered id (name-of (name .bytes)) (Answer.Found none)) (now (work .entry)) (now (out .entry)) p r (now (work .exit)) (now (out .exit)) ⌝ }
+    ensures { λ r. ⌜ Does (refresh-answered id (name-of (name .bytes)) (ReadAnswer.Found none)) (now (work .entry)) (now (out .entry)) p r (now (work .exit)) (now (out .exit)) ⌝ }
 {
     if machine::doubtful(work, id, name) {
         return doubt(work, out, p, name);

@@ -22,7 +22,7 @@ use Rattle.model.specs.Entry as model
 use Rattle.model.specs.Demands.{Call, lend, call, effects-of}
 use Rattle.model.proofs.Theorems.{states-exact, effects-valid}
 use Rattle.engine.specs.declared.Answer.{Answer}
-use Rattle.engine.specs.Answers.{lent, answer}
+use Rattle.engine.specs.Answers.{lent, returned}
 use Rattle.engine.proofs.Laws.{by-output}
 use Rattle.lines.specs.Lines.{frame-of}
 use Rattle.program.specs.Program.{step-bytes, line, answer-bytes, effect-lines, answer-text, bytes-after}
@@ -90,24 +90,24 @@ module _ (s w o frame : Bytes) (ls : length s ≡ 58543) (lw : length w ≡ 5854
       go none e = tt
       go (some st) e = subst (λ (r : Stepped). All (effectF .Ok) (effects-of r)) (called st e) (effects-valid document01 st (states-exact document01 s st .0 e .0) this-call)
 
-  module _ (s′ w′ o′ : Bytes) (a : Answer) (same : length o′ ≡ length o) (is : answer a s′ w′ o′ ≡ entry document01 (lent s w o) frame) where
+  module _ (s′ w′ o′ : Bytes) (a : Answer) (same : length o′ ≡ length o) (is : returned a s′ w′ o′ ≡ entry document01 (lent s w o) frame) where
     abbrev pub after : Stepped
     after = step-bytes s frame
 
-    ended : answer a s′ w′ o′ ≡ answered document01 (lent s w o) after
+    ended : returned a s′ w′ o′ ≡ answered document01 (lent s w o) after
     ended = is ∙ entry-steps
 
     code-is : a .code ≡ code-of after
-    code-is = ap (λ (x : model.Answer). x .code) ended ∙ answered-code (lent s w o) after
+    code-is = ap (λ (x : model.Returned). x .code) ended ∙ answered-code (lent s w o) after
 
     pub length-is : a .length ≡ length (enc-effects (effects-of after))
-    length-is = ap (λ (x : model.Answer). x .length) ended ∙ answered-length (lent s w o) after
+    length-is = ap (λ (x : model.Returned). x .length) ended ∙ answered-length (lent s w o) after
 
     pub out-is : o′ ≡ enc-effects (effects-of after) ++ zeros (length o - length (enc-effects (effects-of after)))
-    out-is = ap (λ (x : model.Answer). x .lent .out) ended ∙ answered-out (lent s w o) after
+    out-is = ap (λ (x : model.Returned). x .lent .out) ended ∙ answered-out (lent s w o) after
 
     goes-on : s′ ≡ bytes-after s after
-    goes-on = ap (λ (x : model.Answer). x .lent .state) ended ∙ answered-state (lent s w o) after
+    goes-on = ap (λ (x : model.Returned). x .lent .state) ended ∙ answered-state (lent s w o) after
 
     pub told-fits : a .length ≤ length o′
     told-fits =

@@ -9,16 +9,16 @@ ghost use Rattle.lent.specs.Lent.{part};
 ghost use Rattle.frame.specs.Read.{kept};
 ghost use Rattle.model.specs.Maps.{keys};
 ghost use Rattle.model.specs.Limits.{document01, max-effects};
-ghost use Rattle.model.specs.Sizes.{state-length};
+ghost use Rattle.model.specs.Sizes.{buffer-length};
 ghost use Rattle.model.specs.Entry.{entry};
 ghost use Rattle.model.specs.Demands.{waiting-count};
 ghost use Rattle.access.specs.Answers.{Answers, Freshened, nth, numbered, record-bytes};
-ghost use Rattle.engine.specs.Answers.{lent, answer};
+ghost use Rattle.engine.specs.Answers.{lent, returned};
 
 // The length of a state's buffer and of the work buffer.
 #[no_mangle]
 pub extern "C" fn bay_state_length() -> usize
-    ensures { λ r. ⌜ r ≡ state-length document01 ⌝ }
+    ensures { λ r. ⌜ r ≡ buffer-length document01 ⌝ }
 {
     engine::STATE
 }
@@ -46,7 +46,7 @@ pub extern "C" fn bay_step(
     frame: &[u8],
     length: &mut usize,
 ) -> u8
-    ensures { λ r. ⌜ answer (record { code = r; length = now (length .exit) }) (now (state .exit)) (now (work .exit)) (now (out .exit)) ≡ entry document01 (lent (now (state .entry)) (now (work .entry)) (now (out .entry))) (now (frame .entry)) ⌝ }
+    ensures { λ r. ⌜ returned (record { code = r; length = now (length .exit) }) (now (state .exit)) (now (work .exit)) (now (out .exit)) ≡ entry document01 (lent (now (state .entry)) (now (work .entry)) (now (out .entry))) (now (frame .entry)) ⌝ }
 {
     let a = engine::step(state, work, out, frame);
     *length = a.length;
