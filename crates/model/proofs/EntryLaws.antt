@@ -7,18 +7,18 @@ use mathlib.Core.List.{List, [], _∷_}
 use mathlib.Core.Option.{Option, none, some}
 use mathlib.Core.Bool.{Bool, true, false}
 use mathlib.Core.Logic.{_↔_}
-use Rattle.format.specs.Format.{wholeOf}
+use Rattle.format.specs.Format.{via, enum, wholeOf}
 use Rattle.format.proofs.WholeLaws.{whole}
 use Rattle.model.specs.Calls.{Input, Effect}
 use Rattle.model.specs.State.{SyncState}
 use Rattle.model.specs.Limits.{Limits}
 use Rattle.model.specs.Maps.{if_then_else_}
-use Rattle.model.specs.Formats.{Bytes}
+use Rattle.model.specs.Formats.{Bytes, inputF}
 use Rattle.model.specs.Machine.{match_none:_some:_}
 use Rattle.model.specs.Sync.{Stepped}
 use Rattle.model.specs.WellFormed.{WellFormed}
 use Rattle.model.specs.Layout.{stateBytes}
-use Rattle.model.specs.Entry.{Lent, Returned, WellFormedBytes, lengths-right, read-state, decode, step-frame, leaves, answered, entry}
+use Rattle.model.specs.Entry.{Lent, Returned, WellFormedBytes, lengths-right, read-state, decode, step-frame, step-bytes, leaves, answered, entry}
 use Rattle.model.specs.Demands.{Call, lend, call, state-after, after-calls, answer-of, bytes-after-calls, Demand1, EveryCall, SameCalls, EntryCalls}
 use Rattle.model.proofs.Bytes.{accepted}
 use Rattle.model.proofs.LayoutLaws.{stateBytes-law, state-there, state-back}
@@ -31,6 +31,11 @@ unfolding read-state
 states-exact limits bytes s =
     let w = whole (stateBytes-law limits) bytes s in
     (λ e. let p = w .0 e in (state-back limits s (p .0), p .1), λ p. w .1 (state-there limits s (p .0), p .1))
+
+-- no bytes are no input
+pub no-bytes : decode [] ≡ none
+unfolding decode wholeOf inputF via enum
+no-bytes = refl
 
 -- ---- demand 1
 
@@ -46,12 +51,10 @@ module _ (limits : Limits) (lent : Lent) (frame : Bytes) where
   kept-answer (Stepped.Refused n) h = refl
   kept-answer (Stepped.Done s out) h = absurd (h refl)
 
-  kept : (b : Bool) (o : Option SyncState)
-      → Kept (if b then (match o none: leaves 2 (lent .state) [] lent some: (λ s. answered limits lent (step-frame limits s (decode frame)))) else record { code = 1; length = 0; lent = lent })
-  unfolding if_then_else_ match_none:_some:_ leaves
-  kept true none h = refl
-  kept true (some s) h = kept-answer (step-frame limits s (decode frame)) h
-  kept false o h = refl
+  kept : (b : Bool) (r : Stepped) → Kept (if b then answered limits lent r else record { code = 1; length = 0; lent = lent })
+  unfolding if_then_else_
+  kept true r h = kept-answer r h
+  kept false r h = refl
 
   well-answer : (s : SyncState) → WellFormed limits s → lent .state ≡ stateBytes limits .enc s
       → (r : Stepped) → WellFormed limits (state-after s r) → Well (answered limits lent r)
@@ -65,8 +68,8 @@ module _ (limits : Limits) (lent : Lent) (frame : Bytes) where
   well-step s w (some input) e = step-well-formed limits s input w (accepted frame input .0 e .0)
 
   well : (b : Bool) (o : Option SyncState) → read-state limits (lent .state) ≡ o
-      → Well (if b then (match o none: leaves 2 (lent .state) [] lent some: (λ s. answered limits lent (step-frame limits s (decode frame)))) else record { code = 1; length = 0; lent = lent })
-  unfolding if_then_else_ match_none:_some:_ leaves
+      → Well (if b then answered limits lent (match o none: Stepped.Refused 2 some: (λ s. step-frame limits s (decode frame))) else record { code = 1; length = 0; lent = lent })
+  unfolding if_then_else_ match_none:_some:_ answered leaves
   well true none e h = absurd (omega arith)
   well true (some s) e h =
       let p = states-exact limits (lent .state) s .0 e in
@@ -74,9 +77,9 @@ module _ (limits : Limits) (lent : Lent) (frame : Bytes) where
   well false o e h = absurd (omega arith)
 
 pub demand-1 : EveryCall
-unfolding entry
+unfolding entry step-bytes
 demand-1 limits lent frame = record {
-  refused = kept limits lent frame (lengths-right limits lent) (read-state limits (lent .state));
+  refused = kept limits lent frame (lengths-right limits lent) (step-bytes limits (lent .state) frame);
   accepted = well limits lent frame (lengths-right limits lent) (read-state limits (lent .state)) refl;
 }
 
@@ -87,14 +90,14 @@ module _ (limits : Limits) where
   untouched lent = record { code = 1; length = 0; lent = lent }
 
   one-of : (lent : Lent) (frame : Bytes) (s : SyncState) (b : Bool) (o : Option SyncState) → o ≡ some s
-      → (if b then (match o none: leaves 2 (lent .state) [] lent some: (λ s. answered limits lent (step-frame limits s (decode frame)))) else untouched lent)
+      → (if b then answered limits lent (match o none: Stepped.Refused 2 some: (λ s. step-frame limits s (decode frame))) else untouched lent)
       ≡ (if b then answered limits lent (if b then step-frame limits s (decode frame) else Stepped.Refused 1) else untouched lent)
   unfolding if_then_else_ match_none:_some:_
   one-of lent frame s true o e = rw e
   one-of lent frame s false o e = refl
 
   one : (s : SyncState) → WellFormed limits s → (c : Call) → entry limits (lend limits s c) (c .frame) ≡ answer-of limits s c
-  unfolding entry answer-of call lend
+  unfolding entry step-bytes answer-of call lend
   one s w c =
       one-of (lend limits s c) (c .frame) s (lengths-right limits (lend limits s c)) (read-state limits (stateBytes limits .enc s))
       (states-exact limits (stateBytes limits .enc s) s .1 (w, refl))

@@ -72,11 +72,13 @@ unfoldable pub answered : Limits → Lent → Stepped → Returned
 answered limits lent (Stepped.Refused n) = leaves n (lent .state) [] lent
 answered limits lent (Stepped.Done s out) = leaves 0 (stateBytes limits .enc s) (enc-effects out) lent
 
+-- a step on the bytes of a state and of a frame: refusal 2, refusal 3, or what the step gives
+unfoldable pub step-bytes : Limits → Bytes → Bytes → Stepped
+step-bytes limits state frame =
+    match read-state limits state none: Stepped.Refused 2 some: (λ s. step-frame limits s (decode frame))
+
 -- checks run 1, 2, 3; refusal 1 touches nothing
 unfoldable pub entry : Limits → Lent → Bytes → Returned
 entry limits lent frame =
-    if lengths-right limits lent
-    then (match read-state limits (lent .state)
-    none: leaves 2 (lent .state) [] lent
-    some: (λ s. answered limits lent (step-frame limits s (decode frame))))
+    if lengths-right limits lent then answered limits lent (step-bytes limits (lent .state) frame)
     else record { code = 1; length = 0; lent = lent }

@@ -20,6 +20,7 @@ use Rattle.model.specs.Formats.{operationF, eventF, conflictsF, refusalsF}
 use Rattle.model.specs.State.{Pending, SyncState, Purpose}
 use Rattle.model.specs.Machine.{Machine, Run, refused, ok, _>>=_, for-each, match_none:_some:_, tell, push, request, set-in-flight, set-next-request, queue-of}
 use Rattle.model.specs.Sync.{ids-of, ending, notify}
+use Rattle.model.specs.Demands.{no-number}
 use Rattle.model.proofs.Holds as model
 use Rattle.model.proofs.ValidParts.{create-ok}
 use Rattle.model.proofs.InFlight.{same-state}
@@ -256,7 +257,7 @@ module _ (j : ℕ) (r : ResourceId) (rejection : Option Rejection) where
 
 reserve-edits : (purpose : Purpose) (m : Machine) → model.Holds (λ m′. m′ .state .edits ≡ m .state .edits) (reserve purpose m)
 unfolding reserve set-in-flight set-next-request
-reserve-edits purpose m = model.branch _ model.stopped (model.within-holds _ _ set-in-flight _ refl)
+reserve-edits purpose m = model.branch _ (model.stopped no-number) (model.within-holds _ _ set-in-flight _ refl)
 
 create-given : (n : RequestId) (r : ResourceId) (s : SyncState) (event : ProviderEvent) → some event ≡ created (nth 0 (queue r s)) → create-effect n r s ≡ some (Effect.Request n (seam.Request.Create r event))
 unfolding create-effect match_none:_some:_
