@@ -18,7 +18,7 @@ use Rattle.model.specs.Machine.{Machine, Run, match_none:_some:_}
 use Rattle.model.specs.Sync.{Stepped, stepped, start, step, apply}
 use Rattle.model.specs.WellFormed.{WellFormed}
 use Rattle.model.specs.Layout.{stateBytes}
-use Rattle.model.specs.Entry.{Lent, lengths-right, read-state, decode, step-frame, leaves, answered, entry}
+use Rattle.model.specs.Entry.{Lent, lengths-right, read-state, decode, step-frame, step-bytes, leaves, answered, entry}
 use Rattle.model.specs.Entry as model
 use Rattle.model.proofs.Theorems.{accepted}
 use Rattle.frame.specs.declared.Input as parsed
@@ -127,19 +127,19 @@ module _ (s w o frame : List ℕ) where
   -- refusal 2
   pub no-state : (a : Answer) (w′ o′ : List ℕ) → true ≡ lengths-right document01 (lent s w o) → (IsState s → ⊥)
       → (a .code ≡ 2) × (a .length ≡ 0) × (w′ ≡ zeros (length w)) × (o′ ≡ zeros (length o)) → returned a s w′ o′ ≡ entry document01 (lent s w o) frame
-  unfolding entry if_then_else_ match_none:_some:_
+  unfolding entry step-bytes if_then_else_ match_none:_some:_ answered
   no-state a w′ o′ l n e = rw (← l, not-read s n) (refused-is a 2 s w o w′ o′ (e .0) (e .1) (e .2) (e .3))
 
   -- refusal 3
   pub no-frame : (a : Answer) (w′ o′ : List ℕ) → true ≡ lengths-right document01 (lent s w o) → IsState s → none ≡ wholeOf inputF frame
       → (a .code ≡ 3) × (a .length ≡ 0) × (w′ ≡ zeros (length w)) × (o′ ≡ zeros (length o)) → returned a s w′ o′ ≡ entry document01 (lent s w o) frame
-  unfolding entry if_then_else_ match_none:_some:_ decode step-frame answered
+  unfolding entry step-bytes if_then_else_ match_none:_some:_ decode step-frame answered
   no-frame a w′ o′ l I d e = rw (← l, read-of I, ← d) (refused-is a 3 s w o w′ o′ (e .0) (e .1) (e .2) (e .3))
 
   -- the frame is an input
   pub entered : (a : Answer) (i : Input) (s′ w′ o′ : List ℕ) → true ≡ lengths-right document01 (lent s w o) → IsState s → some i ≡ wholeOf inputF frame
       → Steps i s w o a s′ w′ o′ → returned a s′ w′ o′ ≡ entry document01 (lent s w o) frame
-  unfolding entry if_then_else_ match_none:_some:_ decode step-frame
+  unfolding entry step-bytes if_then_else_ match_none:_some:_ decode step-frame
   entered a i s′ w′ o′ l I d S = S .is (I .state) (keeps-of I) ∙ rw (← l, read-of I, ← d)
 
   -- what the frame was read as

@@ -1,4 +1,4 @@
--- Calls of `step` meet the three demands. Assumes nothing.
+-- Calls of `step` meet the three demands, and refuse for no other reason. Assumes nothing.
 use mathlib.Core.Path.{_≡_, refl, sym, ap, _∙_, subst}
 use mathlib.Core.List.{List, [], _∷_}
 use mathlib.Core.Option.{Option, none, some}
@@ -13,14 +13,14 @@ use Rattle.model.specs.Machine.{match_none:_some:_}
 use Rattle.model.specs.Sync.{Stepped, step}
 use Rattle.model.specs.WellFormed.{WellFormed}
 use Rattle.model.specs.Layout.{stateBytes}
-use Rattle.model.specs.Entry.{Lent, Returned, WellFormedBytes, lengths-right, read-state, decode, step-frame, leaves, answered, entry}
-use Rattle.model.specs.Demands.{Call, lend, call, state-after, after-calls, answer-of, bytes-after-calls}
+use Rattle.model.specs.Entry.{Lent, Returned, WellFormedBytes, lengths-right, read-state, decode, step-frame, step-bytes, leaves, answered, entry}
+use Rattle.model.specs.Demands.{Call, lend, call, state-after, after-calls, answer-of, bytes-after-calls, Codes}
 use Rattle.model.proofs.Theorems as model
-use Rattle.engine.specs.Demands.{Called, Demand1, Demand2, Linked, left, plain, Answers, Meets}
+use Rattle.engine.specs.Demands.{Called, Demand1, NothingElse, Demand2, Linked, left, plain, Answers, Meets}
 
 entry-is : (lent : Lent) (frame : Bytes) (s : SyncState) (i : Input) (b : Bool) → T b → lengths-right document01 lent ≡ b → read-state document01 (lent .state) ≡ some s → decode frame ≡ some i
     → entry document01 lent frame ≡ answered document01 lent (step document01 s i)
-unfolding entry if_then_else_ match_none:_some:_ step-frame
+unfolding entry step-bytes if_then_else_ match_none:_some:_ step-frame
 entry-is lent frame s i true t l e d = rw (l, e, d)
 entry-is lent frame s i false t l e d = absurd t
 
@@ -34,6 +34,9 @@ demand-2 c s w i ok = record {
 done-code : (lent : Lent) (r : Stepped) (s : SyncState) (effects : List Effect) → r ≡ Stepped.Done s effects → answered document01 lent r .code ≡ 0
 unfolding answered leaves
 done-code lent r s effects e = rw e
+
+pub nothing-else : (c : Called) → NothingElse c
+nothing-else c = subst (λ (a : Returned). Codes document01 (c .lent) (c .frame) (a .code)) (sym (c .is)) (model.nothing-else-refuses document01 (c .lent) (c .frame))
 
 pub demand-1 : (c : Called) → Demand1 c
 demand-1 c =

@@ -1,4 +1,4 @@
--- The three demands of `step`, over lists of its calls on lent bytes. A call is known by what `step` ensures of it, and by nothing
+-- The three demands of `step`, over lists of its calls on lent bytes, and that nothing else refuses. A call is known by what `step` ensures of it, and by nothing
 -- else. Theorems.antt of proofs/ has the proofs. Assumes nothing.
 use mathlib.Core.Path.{_≡_}
 use mathlib.Core.List.{List, [], _∷_}
@@ -12,7 +12,7 @@ use Rattle.model.specs.Sync.{Stepped, step}
 use Rattle.model.specs.WellFormed.{WellFormed}
 use Rattle.model.specs.Layout.{stateBytes}
 use Rattle.model.specs.Entry.{Lent, Returned, WellFormedBytes, lengths-right, answered, entry}
-use Rattle.model.specs.Demands.{Call, call, state-after, after-calls, answer-of, Demand3}
+use Rattle.model.specs.Demands.{Call, call, state-after, after-calls, answer-of, Demand3, Codes}
 
 -- a call of `step`
 pub record Called : Type 0 where
@@ -33,6 +33,12 @@ pub record Demand1 (c : Called) : Type 0 where
   -- right lengths, a well-formed state, an input and a step that the definitions do not refuse: it is accepted
   pub others : (s : SyncState) → WellFormed document01 s → (i : Input) → inputF .Ok i → (s′ : SyncState) (effects : List Effect) → step document01 s i ≡ Stepped.Done s′ effects
       → T (lengths-right document01 (c .lent)) → c .lent .state ≡ stateBytes document01 .enc s → c .frame ≡ inputF .enc i → c .answer .code ≡ 0
+
+-- ---- nothing else refuses
+
+-- its code is one of 0 to 7, with the reason that document 01 gives for it, and no other
+abbrev pub NothingElse : Called → Type 0
+NothingElse c = Codes document01 (c .lent) (c .frame) (c .answer .code)
 
 -- ---- demand 2
 

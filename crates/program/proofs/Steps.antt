@@ -17,7 +17,7 @@ use Rattle.model.specs.Formats.{Bytes, effectF, enc-effects}
 use Rattle.model.specs.Machine.{match_none:_some:_}
 use Rattle.model.specs.Sync.{Stepped}
 use Rattle.model.specs.Layout.{stateBytes}
-use Rattle.model.specs.Entry.{Lent, lengths-right, read-state, decode, step-frame, leaves, answered, entry}
+use Rattle.model.specs.Entry.{Lent, lengths-right, read-state, decode, step-frame, step-bytes, leaves, answered, entry}
 use Rattle.model.specs.Entry as model
 use Rattle.model.specs.Demands.{Call, lend, call, effects-of}
 use Rattle.model.proofs.Theorems.{states-exact, effects-valid}
@@ -25,7 +25,7 @@ use Rattle.engine.specs.declared.Answer.{Answer}
 use Rattle.engine.specs.Answers.{lent, returned}
 use Rattle.engine.proofs.Laws.{by-output}
 use Rattle.lines.specs.Lines.{frame-of}
-use Rattle.program.specs.Program.{step-bytes, line, answer-bytes, effect-lines, answer-text, bytes-after}
+use Rattle.program.specs.Program.{line, answer-bytes, effect-lines, answer-text, bytes-after}
 use Rattle.program.specs.Answers.{Effects, Answers, Answered}
 
 -- 0, or the refusal's number
@@ -64,14 +64,9 @@ module _ (s w o frame : Bytes) (ls : length s ≡ 58543) (lw : length w ≡ 5854
   right : lengths-right document01 (lent s w o) ≡ true
   right = sym (by-output s w o ls lw) ∙ le-leb 32768 (length o) lo
 
-  entry-steps : entry document01 (lent s w o) frame ≡ answered document01 (lent s w o) (step-bytes s frame)
-  unfolding entry if_then_else_ step-bytes match_none:_some:_ answered
-  entry-steps = rw right (go (read-state document01 s))
-    where
-      go : (st : Option SyncState) → (match st none: leaves 2 s [] (lent s w o) some: (λ s₁. answered document01 (lent s w o) (step-frame document01 s₁ (decode frame))))
-          ≡ answered document01 (lent s w o) (match st none: Stepped.Refused 2 some: (λ s₁. step-frame document01 s₁ (decode frame)))
-      go none = refl
-      go (some st) = refl
+  entry-steps : entry document01 (lent s w o) frame ≡ answered document01 (lent s w o) (step-bytes document01 s frame)
+  unfolding entry if_then_else_
+  entry-steps = rw right
 
   this-call : Call
   this-call = record { work = w; out = o; frame = frame }
@@ -82,7 +77,7 @@ module _ (s w o frame : Bytes) (ls : length s ≡ 58543) (lw : length w ≡ 5854
       let h : stateBytes document01 .enc st ≡ s = sym (states-exact document01 s st .0 e .1) in
       rw (h, right)
 
-  pub told-ok : All (effectF .Ok) (effects-of (step-bytes s frame))
+  pub told-ok : All (effectF .Ok) (effects-of (step-bytes document01 s frame))
   unfolding step-bytes match_none:_some:_ effects-of
   told-ok = go (read-state document01 s) refl
     where
@@ -92,7 +87,7 @@ module _ (s w o frame : Bytes) (ls : length s ≡ 58543) (lw : length w ≡ 5854
 
   module _ (s′ w′ o′ : Bytes) (a : Answer) (same : length o′ ≡ length o) (is : returned a s′ w′ o′ ≡ entry document01 (lent s w o) frame) where
     abbrev pub after : Stepped
-    after = step-bytes s frame
+    after = step-bytes document01 s frame
 
     ended : returned a s′ w′ o′ ≡ answered document01 (lent s w o) after
     ended = is ∙ entry-steps
@@ -136,8 +131,8 @@ module _ (s w o frame : Bytes) (ls : length s ≡ 58543) (lw : length w ≡ 5854
       fits = A .fits;
       says =
           A .is ∙ ap (λ (n : ℕ). line (answer-bytes n (length (effects-of after))) ++ effect-lines (effects-of after)) code-is
-          ∙ text-is after ∙ ap (λ (f : Bytes). answer-text (step-bytes s f)) e;
+          ∙ text-is after ∙ ap (λ (f : Bytes). answer-text (step-bytes document01 s f)) e;
       fits-out = told-fits;
-      tells = told .is ∙ ap (λ (f : Bytes). enc-effects (effects-of (step-bytes s f))) e;
-      goes-on = goes-on ∙ ap (λ (f : Bytes). bytes-after s (step-bytes s f)) e;
+      tells = told .is ∙ ap (λ (f : Bytes). enc-effects (effects-of (step-bytes document01 s f))) e;
+      goes-on = goes-on ∙ ap (λ (f : Bytes). bytes-after s (step-bytes document01 s f)) e;
     }

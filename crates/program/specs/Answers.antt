@@ -6,9 +6,11 @@ use lib.ListN.{length, take}
 use Rattle.format.specs.Format.{All}
 use Rattle.lines.specs.Lines.{frame-of, Puts}
 use Rattle.model.specs.Calls.{Effect}
+use Rattle.model.specs.Limits.{document01}
 use Rattle.model.specs.Formats.{Bytes, effectF, enc-effects}
+use Rattle.model.specs.Entry.{step-bytes}
 use Rattle.model.specs.Demands.{effects-of}
-use Rattle.program.specs.Program.{step-bytes, line, answer-bytes, effect-lines, answer-text, bytes-after}
+use Rattle.program.specs.Program.{line, answer-bytes, effect-lines, answer-text, bytes-after}
 use Rattle.program.specs.declared.Listed.{Listed}
 use Rattle.program.specs.declared.Reply.{Reply}
 
@@ -40,7 +42,7 @@ pub record Buffers (state work out frame text : Bytes) : Type 0 where
 -- the line's answer, its effects in the output, and the state that the program goes on with
 pub record Answered (line state state′ out′ text′ : Bytes) (r : Reply) : Type 0 where
   pub fits : r .text ≤ length text′
-  pub says : take (r .text) text′ ≡ answer-text (step-bytes state (frame-of line))
+  pub says : take (r .text) text′ ≡ answer-text (step-bytes document01 state (frame-of line))
   pub fits-out : r .effects ≤ length out′
-  pub tells : take (r .effects) out′ ≡ enc-effects (effects-of (step-bytes state (frame-of line)))
-  pub goes-on : state′ ≡ bytes-after state (step-bytes state (frame-of line))
+  pub tells : take (r .effects) out′ ≡ enc-effects (effects-of (step-bytes document01 state (frame-of line)))
+  pub goes-on : state′ ≡ bytes-after state (step-bytes document01 state (frame-of line))

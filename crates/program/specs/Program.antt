@@ -7,15 +7,8 @@ use Rattle.lines.specs.Lines.{digits}
 use Rattle.model.specs.Calls.{Effect}
 use Rattle.model.specs.Limits.{document01}
 use Rattle.model.specs.Formats.{Bytes, effectF}
-use Rattle.model.specs.Machine.{match_none:_some:_}
 use Rattle.model.specs.Sync.{Stepped}
 use Rattle.model.specs.Layout.{stateBytes}
-use Rattle.model.specs.Entry.{read-state, decode, step-frame}
-
--- a step on the state's bytes
-unfoldable pub step-bytes : Bytes → Bytes → Stepped
-step-bytes state frame =
-    match read-state document01 state none: Stepped.Refused 2 some: (λ s. step-frame document01 s (decode frame))
 
 -- bytes as a line: their digits and a line feed
 abbrev pub line : Bytes → Bytes
