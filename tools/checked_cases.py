@@ -68,7 +68,6 @@ def table(label, limit, steps_of, before=(), last=None):
     for steps in rounds:
         LIST.extend("-" + frame.hex() for frame in steps[:-1])
         LIST.append(">" + steps[-1].hex())
-    LIST.append("")
 
 GOOGLE, GRAPH = b"\0", b"\1"
 
@@ -112,18 +111,29 @@ def alias(i):
     """A created event is found under a name of the provider's."""
     return [creating(i, GRAPH), reply(i, read(event(provider=GRAPH, id=Z)))]
 
+def full(*args, **given):
+    table(*args, **given)
+    LIST.append("")
+
+def stored(place):
+    """The record at a place, counted from 1."""
+    LIST.extend([f"'; record {place}:", f"@{place - 1:02x}"])
+
 table("records", 10, record)
-table("staged", 10, staged, [SYNC])
-table("seen", 32, seen, [SYNC], last=1)
-table("observed", 16, observed, [SYNC])
-table("waiting", 6, waiting)
+for place in 1, 9, 10, 11:
+    stored(place)
+LIST.append("")
+full("staged", 10, staged, [SYNC])
+full("seen", 32, seen, [SYNC], last=1)
+full("observed", 16, observed, [SYNC])
+full("waiting", 6, waiting)
 # behind a head, an update that the others fold into
-table("absorbed", 8, absorbed, [updating(100, 101), updating(0, 1)])
+full("absorbed", 8, absorbed, [updating(100, 101), updating(0, 1)])
 # with a cursor, so that a later pass can expire; a sync needs a place too
-table("in flight", 24, in_flight, [SYNC, reply(0, listed([], done()))], last=1)
+full("in flight", 24, in_flight, [SYNC, reply(0, listed([], done()))], last=1)
 # beside a read that is never answered, so that nothing learned is forgotten
-table("learned", 32, observed, [deleting(Z)])
-table("aliases", 8, alias)
+full("learned", 32, observed, [deleting(Z)])
+full("aliases", 8, alias)
 
 # ---- attendees, changes and timestamps at the ends of what a frame may hold, and one past them
 
@@ -137,6 +147,24 @@ count("listed events", lambda n: reply(0, listed([upsert(event=some(event()))] *
 
 def time(label, t):
     row((f"time {label}: tick", tick(t)), ("expiry", edit(DELETE, expiry=some(number(t)))))
+
+# An edit's expiry around now at and around zero: the effects of the edit, and of a tick that finds it waiting, each from a fresh state. 01040161 is
+# document 01's own: Expired "a". An edit that waits has "r" read, by request 0.
+def expiring(t): return edit(DELETE, id=text(b"a"), resource=text(b"r"), expiry=some(number(t)))
+
+def told(label, steps_of):
+    for place, t in enumerate((-1, 0, 1)):
+        *before, last = steps_of(t)
+        LIST.append("#" + (f"; {t}:" if place else f"{label}: expiry {t}:"))
+        LIST.extend("-" + frame.hex() for frame in before)
+        LIST.append("!" + last.hex())
+    LIST.append("")
+
+told("before any tick", lambda t: [expiring(t)])
+for now in -1, 0, 1:
+    told(f"now {now}", lambda t: [tick(now), expiring(t)])
+for now in -1, 0, 1:
+    told(f"waiting, then a tick {now}", lambda t: [expiring(t), tick(now)])
 
 for t in -200000000000001, -200000000000000, -1, 0, 200000000000000, 200000000000001:
     time(t, t)
