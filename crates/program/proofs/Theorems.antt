@@ -18,7 +18,7 @@ use Rattle.model.specs.Sync.{Stepped}
 use Rattle.model.specs.Entry.{read-state, decode, step-frame, step-bytes}
 use Rattle.model.proofs.Theorems.{no-bytes}
 use Rattle.program.specs.Program.{answer-text, bytes-after}
-use Rattle.program.specs.NoFrame.{HoldsNone, long, odd, empty, other, AnswersThree, NoInput, NoFrame}
+use Rattle.program.specs.Frameless.{long, odd, empty, other, AnswersThree, NoInput, EmptyFrame, Frameless}
 
 -- ---- the digits of no bytes
 
@@ -58,12 +58,12 @@ empty-held : (b : Bool) (o : Option Bytes) → o ≡ none → cond b (held o) []
 empty-held true o e = rw e
 empty-held false o e = refl
 
-pub holds-none : {line : Bytes} → HoldsNone line → frame-of line ≡ []
+pub frameless : Frameless
 unfolding frame-of undigits
-holds-none (long {line} h) = rw (lt-leb (length line) max-digits h)
-holds-none (odd {line} half e) = empty-held (leb (length line) max-digits) (undigits line) (odd-none line half e)
-holds-none empty = refl
-holds-none (other front byte back e) = empty-held (leb (length (front ++ byte ∷ back)) max-digits) (undigits (front ++ byte ∷ back)) (other-none front byte back e)
+frameless line (long h) = rw (lt-leb (length line) max-digits h)
+frameless line (odd half e) = empty-held (leb (length line) max-digits) (undigits line) (odd-none line half e)
+frameless line empty = refl
+frameless line (other front byte back e) = empty-held (leb (length line) max-digits) (undigits line) (other-none front byte back e)
 
 -- ---- the answer
 
@@ -82,5 +82,5 @@ no-input state s e line d =
     let r = refused-3 state s e (frame-of line) d in
     record { says = ap answer-text r ∙ three; stays = ap (bytes-after state) r }
 
-pub no-frame : NoFrame
-no-frame state s e line h = no-input state s e line (ap decode (holds-none h) ∙ no-bytes)
+pub empty-frame : EmptyFrame
+empty-frame state s e line h = no-input state s e line (ap decode h ∙ no-bytes)

@@ -1,3 +1,3 @@
 pub mod Program
 pub mod Answers
-pub mod NoFrame
+pub mod Frameless

@@ -13,12 +13,13 @@ use Rattle.model.specs.Formats.{Bytes}
 use Rattle.model.specs.Entry.{read-state, decode, step-bytes}
 use Rattle.program.specs.Program.{answer-text, bytes-after}
 
-pub data HoldsNone : Bytes → Type 0 where
-  long : {line : Bytes} → max-digits < length line → HoldsNone line
-  odd : {line : Bytes} (half : ℕ) → length line ≡ half + half + 1 → HoldsNone line
-  empty : HoldsNone []
+-- the four kinds of lines that hold no frame
+pub data NoFrameIn : Bytes → Type 0 where
+  long : {line : Bytes} → max-digits < length line → NoFrameIn line
+  odd : {line : Bytes} (half : ℕ) → length line ≡ half + half + 1 → NoFrameIn line
+  empty : NoFrameIn []
   -- a byte that is no digit: its number is 16
-  other : (front : Bytes) (byte : ℕ) (back : Bytes) → value byte ≡ 16 → HoldsNone (front ++ byte ∷ back)
+  other : (front : Bytes) (byte : ℕ) (back : Bytes) → value byte ≡ 16 → NoFrameIn (front ++ byte ∷ back)
 
 -- the line is answered by 030000, and the state stays
 pub record AnswersThree (state line : Bytes) : Type 0 where
@@ -29,6 +30,9 @@ pub record AnswersThree (state line : Bytes) : Type 0 where
 abbrev pub NoInput : Type 0
 NoInput = (state : Bytes) (s : SyncState) → read-state document01 state ≡ some s → (line : Bytes) → decode (frame-of line) ≡ none → AnswersThree state line
 
--- and so for every line that holds no frame
-abbrev pub NoFrame : Type 0
-NoFrame = (state : Bytes) (s : SyncState) → read-state document01 state ≡ some s → (line : Bytes) → HoldsNone line → AnswersThree state line
+-- and so for every line whose frame is empty, as it is where the line holds none
+abbrev pub EmptyFrame : Type 0
+EmptyFrame = (state : Bytes) (s : SyncState) → read-state document01 state ≡ some s → (line : Bytes) → frame-of line ≡ [] → AnswersThree state line
+
+abbrev pub Frameless : Type 0
+Frameless = (line : Bytes) → NoFrameIn line → frame-of line ≡ []
