@@ -6,14 +6,12 @@ use mathlib.Core.List.{List, [], _∷_}
 use mathlib.Core.Option.{none, some}
 use mathlib.Core.Bool.{Bool, true, false, not, _||_, or-false}
 use lib.ListN.{length, take, drop, getD}
-use lib.Seq.{take-at, drop-drop, take-all, getD-take, getD-drop}
-use Rattle.format.specs.Format.{number, bigEndian, via, enum, _∣_, nothing}
+use lib.Seq.{drop-drop, take-all, getD-take, getD-drop}
+use Rattle.format.specs.Format.{number, via, enum, _∣_, nothing}
 use Rattle.format.specs.Format.{text as text-format}
 use Rattle.format.specs.Utf8.{isText, chars}
-use Rattle.format.proofs.SizeLaws.{length-digits}
 use Rattle.spans.specs.Bytes.{zeros}
 use Rattle.spans.specs.Compare.{order}
-use Rattle.numbers.specs.Big.{fromBe}
 use Rattle.tables.specs.Table.{Table, Sized, encTable, text, place, keepSlots, keeps, against}
 use Rattle.tables.specs.declared.Place.the-variants.{Found, Missing}
 use Rattle.tables.proofs.Laws as tables
@@ -33,7 +31,6 @@ use Rattle.state.specs.Contract.{state-length, Keeps, HasState, Reads, Edits}
 use Rattle.state.specs.Values.{name-of, Named, purpose-of}
 use Rattle.state.specs.declared.Kind.{Kind}
 use Rattle.state.specs.declared.Kind.the-variants as kind
-use Rattle.state.proofs.Orders.{from-digits}
 use Rattle.state.proofs.Padded.{length-name, text-number-only}
 use Rattle.state.proofs.Columns as columns
 use Rattle.state.proofs.Ops as ops
@@ -148,25 +145,6 @@ nth w i s h l =
     let u = columns.nth ops.flight-column (0, Purpose.List) i s w h (omega arith) in
     let n : 55643 + 1 + i * 43 ≡ 55643 + (1 + i * 43) = omega arith in
     (ap (λ (j : ℕ). take 43 (drop j w)) n ∙ u .0, u .2, omega arith)
-
-number-there : (w : List ℕ) (p r : ℕ) (e : RequestId × Purpose) → Fit e → take 43 (drop p w) ≡ flight-slot e → r ≡ fromBe 0 (take 8 (drop (p + 1) w)) → r ≡ e .0
-unfolding number number-key
-number-there w p r e ok h d =
-    let b : take 8 (drop (p + 1) w) ≡ bigEndian 8 (e .0) =
-    tables.field-of w 43 p 1 8 (omega arith) ∙ ap (λ (x : List ℕ). take 8 (drop 1 x)) h ∙ take-at (bigEndian 8 (e .0)) (field 34 purposeF (e .1)) 8 (length-digits 8 (e .0)) in
-    d ∙ ap (fromBe 0) b ∙ from-digits (e .0) (ok .0)
-
-pub at-entry : (w q : List ℕ) (i r : ℕ) (k : Kind) → HasState w → i < getD w 55643 0 → r ≡ fromBe 0 (take 8 (drop (55643 + 1 + i * 43 + 1) w))
-    → k ≡ kind-from (getD w (55643 + 1 + i * 43 + 9) 0) → q ≡ take 33 (drop (55643 + 1 + i * 43 + 9 + 1) w)
-    → Reads (λ s. getD (s .in-flight) i (0, Purpose.List)) w (r, purpose-of k (name-of q)) × Named q
-at-entry w q i r k K l d a b = (
-  record {
-    is = λ s h.
-        let u = nth w i s h l in
-        ap₂ (λ (x : ℕ) (y : Purpose). (x, y)) (number-there w (55643 + 1 + i * 43) r (entry i s) (u .1) (u .0) d) (asked w q (55643 + 1 + i * 43) k (entry i s) (u .1) (u .0) a b .0);
-  },
-  (let u = nth w i (K .state) (K .keeps) l in asked w q (55643 + 1 + i * 43) k (entry i (K .state)) (u .1) (u .0) a b .1),
-)
 
 -- ---- dropping by kind
 

@@ -8,13 +8,12 @@ ghost use Prim.Native.Nat.{ℕ, _+_, _≤_, _<_};
 ghost use lib.ListN.{length, take, drop, getD};
 ghost use Rattle.spans.specs.Bytes.{zeros};
 ghost use Rattle.model.specs.Event.{Text};
-ghost use Rattle.model.specs.State.{Purpose};
 ghost use Rattle.model.specs.Maps.{by-number, any, filter, get, values};
 ghost use Rattle.model.specs.Sync.{is-pass-read, is-of-pass, asks-about};
 ghost use Rattle.state.specs.Layout.{name-slot};
 ghost use Rattle.state.specs.Setters.{with-in-flight};
 ghost use Rattle.state.specs.Contract.{HasState, Reads, Edits};
-ghost use Rattle.state.specs.Values.{name-of, Named, purpose-of};
+ghost use Rattle.state.specs.Values.{name-of, Named};
 ghost use mathlib.Core.List.{List as Vec, []};
 ghost use Rattle.flights.specs.Asked.{kind-from, purpose-in, Listed, Lists, lost, Noted};
 
@@ -27,12 +26,6 @@ pub struct Asking {
 // What a request is for, if it is in flight.
 pub struct Asked {
     pub found: bool,
-    pub kind: Kind,
-    pub name: Name,
-}
-
-pub struct Flight {
-    pub number: u64,
     pub kind: Kind,
     pub name: Name,
 }
@@ -108,21 +101,6 @@ pub fn purpose(work: &[u8], n: u64) -> Asked
             };
         }
     }
-}
-
-// Entry i.
-pub fn flight_at(work: &[u8], i: usize) -> Flight
-    requires { ⌜ HasState (now work) ⌝ }
-    requires { ⌜ i < getD (now work) 55643 0 ⌝ }
-    ensures { λ r. ⌜ Reads (λ s. getD (s .in-flight) i (0, Purpose.List)) (now (work .entry)) (r .number, purpose-of (r .kind) (name-of (r .name .bytes))) ⌝ }
-    ensures { λ r. ⌜ Named (r .name .bytes) ⌝ }
-{
-    let at = IN_FLIGHT + 1 + i * IN_FLIGHT_SLOT;
-    let number = numbers::get_be(work, at + 1);
-    let a = asking_at(work, at + 9);
-    let kind = a.kind;
-    let name = a.name;
-    Flight { number, kind, name }
 }
 
 // Drops the reads of a pass.

@@ -220,10 +220,6 @@ reply-same : (a b : Participation) → same participationF a b ≡ eqb (particip
 unfolding same participationF via below
 reply-same a b = one-byte (participationFrom a) (participationFrom b)
 
-removed-shown : (b o : Attendee) → display-address (some b) (some o) none ≡ o .address
-unfolding display-address
-removed-shown b o = refl
-
 pub removed-items : (which : ℕ) (b o : Attendee) → attendeeF .Ok b → attendeeF .Ok o
     → entryItems which (judgeRemoved (attendeeF .enc b) (attendeeF .enc o)) (attendeeF .enc b) (attendeeF .enc o) [] ≡ items which one-item (own-removed b o)
 unfolding entryItems entryValueItems own-removed if_then_else_ display-address

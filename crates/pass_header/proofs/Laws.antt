@@ -29,7 +29,7 @@ use Rattle.state.proofs.Parts as parts
 use Rattle.state.proofs.Fresh.{no-pass-fits}
 use Rattle.pass_tables.proofs.Laws as pass
 use Rattle.pass_header.proofs.Regions as regions
-use Rattle.pass_header.specs.From.{kind-of, kind-from, text-of, from-in, cursor-text-of}
+use Rattle.pass_header.specs.From.{kind-of, kind-from, text-of, from-in}
 use Rattle.pass_header.specs.declared.FromKind.{FromKind}
 use Rattle.pass_header.specs.declared.FromKind.the-variants as from
 
@@ -86,37 +86,11 @@ unfolding is-some option via enum _∣_ nothing padded
 cursor-first none n e = (λ z. refl, λ z. absurd (z e))
 cursor-first (some c) n e = (λ z. absurd (omega arith), λ z. refl)
 
-cursor-text-in : (w : List ℕ) (at : ℕ) (c : Option Cursor) → option shortText .Ok c → take 34 (drop at w) ≡ field 34 (option shortText) c
-    → (take (getD w (at + 1) 0) (drop (at + 2) w) ≡ cursor-text-of c) × (getD w (at + 1) 0 ≤ 32)
-unfolding option via enum _∣_ nothing padded text-format max-text
-cursor-text-in w at none ok e = (text-in w at 0 [] (zeros 32) e (omega arith), length-in w at 0 0 (zeros 32) e (omega arith))
-cursor-text-in w at (some c) ok e = (text-in w at 1 c (zeros (34 - suc (suc (length c)))) e (ok .0), length-in w at 1 (length c) (c ++ zeros (34 - suc (suc (length c)))) e (ok .0))
-
-pub cursor-none : (w : List ℕ) → (getD w 9151 0 ≡ 0 → Reads (λ s. is-some (s .cursor)) w false) × ((getD w 9151 0 ≡ 0 → ⊥) → Reads (λ s. is-some (s .cursor)) w true)
-cursor-none w = (
-  λ z. record { is = λ s h. cursor-first (s .cursor) _ (first-in w _ 9151 (parts.cursor-part s w h)) .0 z },
-  λ z. record { is = λ s h. cursor-first (s .cursor) _ (first-in w _ 9151 (parts.cursor-part s w h)) .1 z },
-)
-
 pub done-none : (w : List ℕ) → (getD w 19968 0 ≡ 0 → Reads (λ s. is-some (pass-of (s .pass) .done)) w false) × ((getD w 19968 0 ≡ 0 → ⊥) → Reads (λ s. is-some (pass-of (s .pass) .done)) w true)
 done-none w = (
   λ z. record { is = λ s h. cursor-first (pass-of (s .pass) .done) _ (first-in w _ 19968 (parts.done-part s w h)) .0 z },
   λ z. record { is = λ s h. cursor-first (pass-of (s .pass) .done) _ (first-in w _ 19968 (parts.done-part s w h)) .1 z },
 )
-
-pub cursor-short : (w : List ℕ) → HasState w → getD w (9151 + 1) 0 ≤ 32
-cursor-short w K = cursor-text-in w 9151 (K .state .cursor) (K .keeps .fits .cursor) (parts.cursor-part (K .state) w (K .keeps)) .1
-
-pub cursor-reads : (w r : List ℕ) → r ≡ take (getD w (9151 + 1) 0) (drop (9151 + 2) w) → Reads (λ s. cursor-text-of (s .cursor)) w r
-cursor-reads w r e = record { is = λ s h. e ∙ cursor-text-in w 9151 (s .cursor) (h .fits .cursor) (parts.cursor-part s w h) .0 }
-
-cursor-fits : (c : Option Cursor) → option shortText .Ok c → length (cursor-text-of c) ≤ 32
-unfolding option via enum _∣_ text-format max-text
-cursor-fits none ok = omega arith
-cursor-fits (some c) ok = ok .0
-
-pub cursor-within-32 : (w r : List ℕ) → HasState w → r ≡ take (getD w (9151 + 1) 0) (drop (9151 + 2) w) → length r ≤ 32
-cursor-within-32 w r K e = subst (λ (x : List ℕ). length x ≤ 32) (sym (cursor-reads w r e .is (K .state) (K .keeps))) (cursor-fits (K .state .cursor) (K .keeps .fits .cursor))
 
 put-in : (at : ℕ) (q w w′ : List ℕ) → length q ≡ 34 → w′ ≡ take at w ++ (q ++ drop (at + length q) w) → w′ ≡ placed at 34 q w
 put-in at q w w′ l e = e ∙ ap (λ (x : List ℕ). take at w ++ (q ++ x)) (ap (λ (n : ℕ). drop (at + n) w) l ∙ sym (drop-drop 34 at w))

@@ -1,9 +1,8 @@
 -- Where a listing goes on from, by its case and its text apart. Assumes nothing.
 use Prim.Native.Nat.{ℕ, zero, suc}
 use mathlib.Core.List.{[]}
-use mathlib.Core.Option.{Option, none, some}
 use Rattle.model.specs.Event.{Text}
-use Rattle.model.specs.Seam.{Cursor, ListFrom}
+use Rattle.model.specs.Seam.{ListFrom}
 use Rattle.pass_header.specs.declared.FromKind.{FromKind}
 use Rattle.pass_header.specs.declared.FromKind.the-variants as from
 
@@ -29,8 +28,3 @@ abbrev pub kind-from : ℕ → FromKind
 kind-from zero = from.Start
 kind-from (suc zero) = from.Since
 kind-from (suc (suc n)) = from.Continue
-
--- a cursor's text: empty where there is none
-abbrev pub cursor-text-of : Option Cursor → Text
-cursor-text-of none = []
-cursor-text-of (some cursor) = cursor

@@ -12,7 +12,7 @@ ghost use Rattle.model.specs.Formats.{shortText};
 ghost use Rattle.state.specs.Layout.{padded, pass-of};
 ghost use Rattle.state.specs.Setters.{with-cursor, with-pass, pass-changed};
 ghost use Rattle.state.specs.Contract.{HasState, Reads, Edits};
-ghost use Rattle.pass_header.specs.From.{kind-of, kind-from, text-of, cursor-text-of};
+ghost use Rattle.pass_header.specs.From.{kind-of, kind-from, text-of};
 
 // The case of where a listing goes on from; its text stands beside it.
 pub enum FromKind {
@@ -76,26 +76,6 @@ fn field_of(first: u8, text: &[u8]) -> Field
 }
 
 // ---- cursor
-
-pub fn has_cursor(work: &[u8]) -> bool
-    requires { ⌜ HasState (now work) ⌝ }
-    ensures { λ r. ⌜ Reads (λ s. is-some (s .cursor)) (now (work .entry)) r ⌝ }
-{
-    let first = work[CURSOR];
-    if first == 0 {
-        return false;
-    }
-    true
-}
-
-// The cursor's text, as that part of the work buffer; nothing where there is none.
-pub fn cursor_text(work: &[u8]) -> &[u8]
-    requires { ⌜ HasState (now work) ⌝ }
-    ensures { λ r. ⌜ Reads (λ s. cursor-text-of (s .cursor)) (now (work .entry)) (now r) ⌝ }
-    ensures { λ r. ⌜ length (now r) ≤ 32 ⌝ }
-{
-    text_at(work, CURSOR)
-}
 
 pub fn clear_cursor(work: &mut [u8])
     requires { ⌜ HasState (now work) ⌝ }

@@ -1,12 +1,11 @@
 -- The functions on the pass in the model's words. Assumes nothing.
 use mathlib.Core.Path.{_≡_, refl}
 use mathlib.Core.Option.{Option, none, some}
-use mathlib.Core.Bool.{not, _&&_}
 use Rattle.model.specs.Event.{Text}
 use Rattle.model.specs.State.{Pass}
-use Rattle.model.specs.Maps.{by-name, any, get, values, is-some, is-some-and}
+use Rattle.model.specs.Maps.{by-name, get, is-some, is-some-and}
 use Rattle.model.specs.Machine.{Machine}
-use Rattle.model.specs.Sync.{is-unread, pass-done, pass-full, listed-unread, ready}
+use Rattle.model.specs.Sync.{is-unread, pass-done, pass-full, listed-unread}
 use Rattle.state.specs.Layout.{pass-of, no-pass}
 use Rattle.staged.specs.Staging.{staged-of}
 
@@ -34,14 +33,5 @@ unfolding listed-unread is-some-and pass-of no-pass get
 listed-unread-is r m = go (m .state .pass)
   where
     go : (o : Option Pass) → is-some-and is-unread (get by-name r (pass-of o .staged)) ≡ is-some-and (λ pass. is-some-and is-unread (get by-name r (pass .staged))) o
-    go none = refl
-    go (some p) = refl
-
--- `is_done` and not `any_unread`
-pub ready-is : (m : Machine) → (is-some (pass-of (m .state .pass) .done) && not (any is-unread (values (staged-of (m .state))))) ≡ ready m
-unfolding ready is-some is-some-and pass-of no-pass
-ready-is m = go (m .state .pass)
-  where
-    go : (o : Option Pass) → (is-some (pass-of o .done) && not (any is-unread (values (pass-of o .staged)))) ≡ is-some-and (λ pass. is-some (pass .done) && not (any is-unread (values (pass .staged)))) o
     go none = refl
     go (some p) = refl

@@ -98,22 +98,12 @@ module _ (s : SyncState) (t : Rises (s .edits)) where
   queue-put r [] = rw (orders.get-remove by-name orders.name-order r (s .edits) t)
   queue-put r (p ∷ q) = rw (orders.get-insert by-name orders.name-order r (p ∷ q) (s .edits))
 
-  pub queue-other : (j r : ResourceId) (q : Queue) → (j ≡ r → ⊥) → queue j (put-queue r q s) ≡ queue j s
-  unfolding queue-in put-in match_none:_some:_
-  queue-other j r [] d = rw (orders.get-remove-other by-name orders.name-order j r (s .edits) t (λ e. d (orders.by-name-same j r e)))
-  queue-other j r (p ∷ q) d = rw (orders.get-insert-other by-name orders.name-order j r (p ∷ q) (s .edits) (λ e. d (orders.by-name-same j r e)))
-
   pub put-put : (r : ResourceId) (a b : Queue) → put-queue r a (put-queue r b s) ≡ put-queue r a s
   unfolding put-in
   put-put r [] [] = ap (λ (m : Queues). with-edits m s) (out-twice r (s .edits) t)
   put-put r [] (p ∷ b) = ap (λ (m : Queues). with-edits m s) (insert-out r (p ∷ b) (s .edits))
   put-put r (p ∷ a) [] = ap (λ (m : Queues). with-edits m s) (out-insert r (p ∷ a) (s .edits) t)
   put-put r (p ∷ a) (q ∷ b) = ap (λ (m : Queues). with-edits m s) (insert-twice r (p ∷ a) (q ∷ b) (s .edits))
-
-  pub rises-put : (r : ResourceId) (q : Queue) → Rises (put-queue r q s .edits)
-  unfolding put-in
-  rises-put r [] = orders.rising-remove by-name orders.name-order r (s .edits) t
-  rises-put r (p ∷ q) = orders.rising-insert by-name orders.name-order r (p ∷ q) (s .edits) t
 
 -- a queue in its own place
 put-same : (r : ResourceId) (m : Queues) → All (QueueFits document01) m → put-in r (queue-in r m) m ≡ m

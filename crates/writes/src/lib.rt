@@ -35,7 +35,7 @@ ghost use Rattle.writes.specs.Moves.{MovesOne, swept};
 
 // ---- requests
 
-pub fn request_update(
+fn request_update(
     work: &mut [u8],
     out: &mut [u8],
     p: Progress,
@@ -61,7 +61,7 @@ pub fn request_update(
     machine::sent(q, pen)
 }
 
-pub fn request_delete(
+fn request_delete(
     work: &mut [u8],
     out: &mut [u8],
     p: Progress,
