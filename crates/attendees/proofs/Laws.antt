@@ -11,15 +11,14 @@ use lib.ListN.{length, getD}
 use borrow.Author.Tests.{eq-eqb, ne-eqb, lt-ltb, le-ltb, le-leb, lt-leb}
 use Rattle.format.specs.Format.{Got, below, text}
 use Rattle.model.specs.Limits.{max-attendees, max-text}
-use Rattle.model.specs.Maps.{same-text}
-use Rattle.model.specs.Formats.{shortText, attendeeF}
+use Rattle.model.specs.Maps.{if_then_else_, same-text}
+use Rattle.model.specs.Formats.{same, shortText, attendeeF}
+use Rattle.model.specs.Merge.{Verdict, verdict}
 use Rattle.model.proofs.FormatsLaws.{shortText-law}
 use Rattle.comparison.proofs.Laws.{same-nil, same-cons}
 use Rattle.frame.specs.Read.{skips, start, valueAt, valueOf}
 use Rattle.frame.specs.declared.Cursor.{Cursor}
-use Rattle.comparison.specs.Bytes.{sameFolded, verdictOf, isOurs, isConflict, isRefused, span}
-use Rattle.comparison.specs.declared.Verdict.{Verdict}
-use Rattle.comparison.specs.declared.Verdict.the-variants.{Theirs, Ours, Conflict}
+use Rattle.comparison.specs.Bytes.{sameFolded, raw, isOurs, isConflict, isRefused, span}
 use Rattle.attendees.specs.Entries.{entryCount, entryAt, entryBytes, addressOf, oneIf, tallyOf, occurrenceOf, findFrom, findBytes, shownAddress, headOf, replyOf, kindOf, sameRest, judgeWhole, judgeRemoved, restRefused, judgeStanding, judgeOwn, judgeOf, entryValueItems, sideBytes, entryRefused, entryConflict, entryItems, ownOf, keyItems, ourKeyItems, theirItems, ourItems, entriesItems}
 use Rattle.attendees.specs.declared.judging.Judged.{Judged}
 
@@ -50,20 +49,20 @@ pub one-byte : (x y : ℕ) → same-text (x ∷ []) (y ∷ []) ≡ eqb x y
 one-byte x y = same-cons x y [] [] ∙ rw same-nil (and-true (eqb x y))
 
 module _ (b o t : ℕ) where
-  pub byte-base : o ≡ b → Theirs ≡ verdictOf (b ∷ []) (o ∷ []) (t ∷ []) true
-  unfolding verdictOf
+  pub byte-base : o ≡ b → Verdict.Theirs ≡ verdict raw (b ∷ []) (o ∷ []) (t ∷ []) true
+  unfolding verdict same if_then_else_
   byte-base e = rw (one-byte o b, eq-eqb o b e)
 
-  pub byte-theirs : (o ≡ b → ⊥) → o ≡ t → Theirs ≡ verdictOf (b ∷ []) (o ∷ []) (t ∷ []) true
-  unfolding verdictOf
+  pub byte-theirs : (o ≡ b → ⊥) → o ≡ t → Verdict.Theirs ≡ verdict raw (b ∷ []) (o ∷ []) (t ∷ []) true
+  unfolding verdict same if_then_else_
   byte-theirs e f = rw (one-byte o b, one-byte o t, ne-eqb o b e, eq-eqb o t f)
 
-  pub byte-ours : (o ≡ b → ⊥) → (o ≡ t → ⊥) → t ≡ b → Ours ≡ verdictOf (b ∷ []) (o ∷ []) (t ∷ []) true
-  unfolding verdictOf
+  pub byte-ours : (o ≡ b → ⊥) → (o ≡ t → ⊥) → t ≡ b → Verdict.Ours ≡ verdict raw (b ∷ []) (o ∷ []) (t ∷ []) true
+  unfolding verdict same if_then_else_
   byte-ours e f g = rw (one-byte o b, one-byte o t, one-byte t b, ne-eqb o b e, ne-eqb o t f, eq-eqb t b g)
 
-  pub byte-conflict : (o ≡ b → ⊥) → (o ≡ t → ⊥) → (t ≡ b → ⊥) → Conflict ≡ verdictOf (b ∷ []) (o ∷ []) (t ∷ []) true
-  unfolding verdictOf
+  pub byte-conflict : (o ≡ b → ⊥) → (o ≡ t → ⊥) → (t ≡ b → ⊥) → Verdict.Conflict ≡ verdict raw (b ∷ []) (o ∷ []) (t ∷ []) true
+  unfolding verdict same if_then_else_
   byte-conflict e f g = rw (one-byte o b, one-byte o t, one-byte t b, ne-eqb o b e, ne-eqb o t f, ne-eqb t b g)
 
 pub count-is : (s : List ℕ) (n : ℕ) → n ≡ valueAt (below (suc 8)) 0 s start → n ≡ entryCount s
@@ -154,11 +153,11 @@ module _ (b o t : List ℕ) (x : Bool) (e : x ≡ sameRest o b) where
   rest-other h y f = rw (← e, h, f)
 
 pub standing-is : (b o t : List ℕ) (x y z : Bool) (p q r s : ℕ) (v : Verdict) → x ≡ restRefused b o t → p ≡ replyOf b → q ≡ replyOf o → r ≡ replyOf t
-    → v ≡ verdictOf (p ∷ []) (q ∷ []) (r ∷ []) true → y ≡ isOurs v → s ≡ cond y (replyOf o) (replyOf t) → z ≡ isConflict v
+    → v ≡ verdict raw (p ∷ []) (q ∷ []) (r ∷ []) true → y ≡ isOurs v → s ≡ cond y (replyOf o) (replyOf t) → z ≡ isConflict v
     → _≡_ {A = Judged} (record { ours = false; reply = s; conflict = z; refused = x }) (judgeStanding b o t)
 standing-is b o t x y z p q r s v e f g h i j k l = rw (e, k, l, j, i, f, g, h)
 
-pub whole-is : (b o t : List ℕ) (owned : Bool) (x y z : Bool) (s : ℕ) (v : Verdict) → v ≡ verdictOf b o t owned → x ≡ isOurs v → s ≡ cond x (replyOf o) (replyOf t)
+pub whole-is : (b o t : List ℕ) (owned : Bool) (x y z : Bool) (s : ℕ) (v : Verdict) → v ≡ verdict raw b o t owned → x ≡ isOurs v → s ≡ cond x (replyOf o) (replyOf t)
     → y ≡ isConflict v → z ≡ isRefused v → _≡_ {A = Judged} (record { ours = x; reply = s; conflict = y; refused = z }) (judgeWhole b o t owned)
 whole-is b o t owned x y z s v e f g h i = rw (g, h, i, f, e)
 

@@ -11,12 +11,11 @@ use Rattle.format.specs.Format.{below, option}
 use Rattle.model.specs.Event.{Attendee}
 use Rattle.model.specs.Limits.{max-attendees}
 use Rattle.model.specs.Maps.{same-text}
-use Rattle.model.specs.Merge.{display-address}
+use Rattle.model.specs.Merge.{Verdict, verdict, display-address}
 use Rattle.model.specs.Formats.{shortText, attendeeF}
 use Rattle.frame.specs.Read.{skips, start, valueAt}
 use Rattle.frame.specs.declared.Cursor.{Cursor}
-use Rattle.comparison.specs.Bytes.{sameFolded, verdictOf, isOurs, isConflict, isRefused, span}
-use Rattle.comparison.specs.declared.Verdict.{Verdict}
+use Rattle.comparison.specs.Bytes.{sameFolded, raw, isOurs, isConflict, isRefused, span}
 use Rattle.attendees.specs.declared.judging.Judged.{Judged}
 
 -- a list's count of entries
@@ -93,10 +92,10 @@ sameRest a b = same-text (headOf a) (headOf b) && eqb (kindOf a) (kindOf b)
 
 abbrev pub judgeWhole : (b o t : List ℕ) → Bool → Judged
 judgeWhole b o t owned = record {
-  ours = isOurs (verdictOf b o t owned);
-  reply = cond (isOurs (verdictOf b o t owned)) (replyOf o) (replyOf t);
-  conflict = isConflict (verdictOf b o t owned);
-  refused = isRefused (verdictOf b o t owned);
+  ours = isOurs (verdict raw b o t owned);
+  reply = cond (isOurs (verdict raw b o t owned)) (replyOf o) (replyOf t);
+  conflict = isConflict (verdict raw b o t owned);
+  refused = isRefused (verdict raw b o t owned);
 }
 
 abbrev pub judgeRemoved : (b o : List ℕ) → Judged
@@ -106,7 +105,7 @@ abbrev pub restRefused : (b o t : List ℕ) → Bool
 restRefused b o t = not (sameRest o b || sameRest o t)
 
 abbrev pub replyVerdict : (b o t : List ℕ) → Verdict
-replyVerdict b o t = verdictOf (replyOf b ∷ []) (replyOf o ∷ []) (replyOf t ∷ []) true
+replyVerdict b o t = verdict raw (replyOf b ∷ []) (replyOf o ∷ []) (replyOf t ∷ []) true
 
 abbrev pub judgeStanding : (b o t : List ℕ) → Judged
 judgeStanding b o t = record {

@@ -3,7 +3,8 @@ ghost use mathlib.Core.Path.{_≡_};
 ghost use mathlib.Core.List.{[], _∷_};
 ghost use mathlib.Core.Bool.{true, cond, not};
 ghost use lib.Dec.{eqb};
-ghost use Rattle.comparison.specs.Bytes.{verdictOf};
+ghost use Rattle.model.specs.Merge.{verdict};
+ghost use Rattle.comparison.specs.Bytes.{meantVerdict, raw};
 ghost use Rattle.attendees.specs.Entries.{replyOf, judgeWhole, judgeOwn, judgeRemoved, restRefused, judgeStanding, judgeOf};
 use crate::entry_parts::reply;
 use crate::entry_parts::same_rest;
@@ -43,7 +44,7 @@ fn judge_whole(b: &[u8], o: &[u8], t: &[u8], owned: bool) -> Judged
 }
 
 fn verdict_byte(base: u8, ours: u8, theirs: u8) -> Verdict
-    ensures { λ r. ⌜ r ≡ verdictOf (base ∷ []) (ours ∷ []) (theirs ∷ []) true ⌝ }
+    ensures { λ r. ⌜ meantVerdict r ≡ verdict raw (base ∷ []) (ours ∷ []) (theirs ∷ []) true ⌝ }
 {
     if ours == base {
         return Verdict::Theirs;

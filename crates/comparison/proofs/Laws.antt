@@ -4,7 +4,7 @@ use native.Mathlib.Omega.{arith}
 use native.Mathlib.Numerals.{add-one}
 use mathlib.Core.Path.{_≡_, refl, sym, ap, _∙_}
 use mathlib.Core.List.{List, [], _∷_}
-use mathlib.Core.Bool.{Bool, true, false, not, cond, _&&_, _||_}
+use mathlib.Core.Bool.{Bool, true, false, not, _&&_}
 use lib.Dec.{leb, eqb, isEq}
 use lib.ListN.{length, getD, take, drop, drop-of-length-le, length-drop}
 use lib.Seq.{drop-cons, take-all}
@@ -12,9 +12,8 @@ use borrow.Author.Tests.{le-leb, lt-leb, eq-eqb, ne-eqb}
 use Rattle.format.specs.Format.{Format}
 use Rattle.model.specs.Maps.{if_then_else_, by, by-name, same-text, map}
 use Rattle.model.specs.Formats.{same}
-use Rattle.model.specs.Merge.{lower, to-ascii-lowercase, verdict}
-use Rattle.comparison.specs.Bytes.{sameFolded, meantVerdict, verdictOf, span}
-use Rattle.comparison.specs.declared.Verdict.the-variants.{Theirs, Ours, Conflict, Refused}
+use Rattle.model.specs.Merge.{Verdict, lower, to-ascii-lowercase, verdict}
+use Rattle.comparison.specs.Bytes.{sameFolded, raw, span}
 
 -- the model's comparison, byte by byte
 pub same-nil : same-text [] [] ≡ true
@@ -101,34 +100,27 @@ part-rest s from to h =
     take-all (length s - from) (drop from s) (omega arith) ∙ sym (take-all (to - from) (drop from s) (omega arith))
 
 module _ (b o t : List ℕ) (owned : Bool) where
-  pub verdict-base : same-text o b ≡ true → Theirs ≡ verdictOf b o t owned
-  unfolding verdictOf
+  pub verdict-base : same-text o b ≡ true → Verdict.Theirs ≡ verdict raw b o t owned
+  unfolding verdict same if_then_else_
   verdict-base e = rw e
 
-  pub verdict-theirs : same-text o b ≡ false → same-text o t ≡ true → Theirs ≡ verdictOf b o t owned
-  unfolding verdictOf
+  pub verdict-theirs : same-text o b ≡ false → same-text o t ≡ true → Verdict.Theirs ≡ verdict raw b o t owned
+  unfolding verdict same if_then_else_
   verdict-theirs e f = rw (e, f)
 
-  pub verdict-refused : same-text o b ≡ false → same-text o t ≡ false → not owned ≡ true → Refused ≡ verdictOf b o t owned
-  unfolding verdictOf
+  pub verdict-refused : same-text o b ≡ false → same-text o t ≡ false → not owned ≡ true → Verdict.Refused ≡ verdict raw b o t owned
+  unfolding verdict same if_then_else_
   verdict-refused e f g = rw (e, f, g)
 
-  pub verdict-ours : same-text o b ≡ false → same-text o t ≡ false → not owned ≡ false → same-text t b ≡ true → Ours ≡ verdictOf b o t owned
-  unfolding verdictOf
+  pub verdict-ours : same-text o b ≡ false → same-text o t ≡ false → not owned ≡ false → same-text t b ≡ true → Verdict.Ours ≡ verdict raw b o t owned
+  unfolding verdict same if_then_else_
   verdict-ours e f g h = rw (e, f, g, h)
 
-  pub verdict-conflict : same-text o b ≡ false → same-text o t ≡ false → not owned ≡ false → same-text t b ≡ false → Conflict ≡ verdictOf b o t owned
-  unfolding verdictOf
+  pub verdict-conflict : same-text o b ≡ false → same-text o t ≡ false → not owned ≡ false → same-text t b ≡ false → Verdict.Conflict ≡ verdict raw b o t owned
+  unfolding verdict same if_then_else_
   verdict-conflict e f g h = rw (e, f, g, h)
 
--- judged by their bytes, values are judged as the model has it
-pub verdict-means : {A : Type 0} (f : Format A) (b o t : A) (owned : Bool) → meantVerdict (verdictOf (f .enc b) (f .enc o) (f .enc t) owned) ≡ verdict f b o t owned
-unfolding verdict verdictOf same if_then_else_
-verdict-means f b o t owned = go (same-text (f .enc o) (f .enc b) || same-text (f .enc o) (f .enc t)) (not owned) (same-text (f .enc t) (f .enc b))
-  where
-    go : (x y z : Bool) → meantVerdict (cond x Theirs (cond y Refused (cond z Ours Conflict)))
-        ≡ (if x then meantVerdict Theirs else (if y then meantVerdict Refused else (if z then meantVerdict Ours else meantVerdict Conflict)))
-    go true y z = refl
-    go false true z = refl
-    go false false true = refl
-    go false false false = refl
+-- values are judged by their bytes
+pub verdict-raw : {A : Type 0} (f : Format A) (b o t : A) (owned : Bool) → verdict raw (f .enc b) (f .enc o) (f .enc t) owned ≡ verdict f b o t owned
+unfolding verdict same
+verdict-raw f b o t owned = refl

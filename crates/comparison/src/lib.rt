@@ -1,8 +1,8 @@
 // Encoded parts: compared, judged, and taken out of the bytes around them.
 ghost use mathlib.Core.Path.{_≡_};
 ghost use Rattle.model.specs.Maps.{same-text};
-ghost use Rattle.model.specs.Merge.{lower};
-ghost use Rattle.comparison.specs.Bytes.{sameFolded, verdictOf, isOurs, isConflict, isRefused, span};
+ghost use Rattle.model.specs.Merge.{lower, verdict};
+ghost use Rattle.comparison.specs.Bytes.{sameFolded, meantVerdict, raw, isOurs, isConflict, isRefused, span};
 
 // Whether two lists of bytes are equal.
 pub fn same(a: &[u8], b: &[u8]) -> bool
@@ -71,7 +71,7 @@ pub enum Verdict {
 
 // The verdict on one unit, whose encoded parts these are.
 pub fn verdict_of(base: &[u8], ours: &[u8], theirs: &[u8], owned: bool) -> Verdict
-    ensures { λ r. ⌜ r ≡ verdictOf (now (base .entry)) (now (ours .entry)) (now (theirs .entry)) owned ⌝ }
+    ensures { λ r. ⌜ meantVerdict r ≡ verdict raw (now (base .entry)) (now (ours .entry)) (now (theirs .entry)) owned ⌝ }
 {
     if same(ours, base) {
         return Verdict::Theirs;
@@ -89,7 +89,7 @@ pub fn verdict_of(base: &[u8], ours: &[u8], theirs: &[u8], owned: bool) -> Verdi
 }
 
 pub fn is_ours(v: Verdict) -> bool
-    ensures { λ r. ⌜ r ≡ isOurs v ⌝ }
+    ensures { λ r. ⌜ r ≡ isOurs (meantVerdict v) ⌝ }
 {
     match v {
         Verdict::Theirs => false,
@@ -100,7 +100,7 @@ pub fn is_ours(v: Verdict) -> bool
 }
 
 pub fn is_conflict(v: Verdict) -> bool
-    ensures { λ r. ⌜ r ≡ isConflict v ⌝ }
+    ensures { λ r. ⌜ r ≡ isConflict (meantVerdict v) ⌝ }
 {
     match v {
         Verdict::Theirs => false,
@@ -111,7 +111,7 @@ pub fn is_conflict(v: Verdict) -> bool
 }
 
 pub fn is_refused(v: Verdict) -> bool
-    ensures { λ r. ⌜ r ≡ isRefused v ⌝ }
+    ensures { λ r. ⌜ r ≡ isRefused (meantVerdict v) ⌝ }
 {
     match v {
         Verdict::Theirs => false,

@@ -16,12 +16,10 @@ use Rattle.model.specs.Parts.{Field, FieldValue}
 use Rattle.model.specs.Shapes.{attendeeRoleFrom, participationFrom, kindFrom}
 use Rattle.model.specs.Maps.{if_then_else_, same-text}
 use Rattle.model.specs.Formats.{same, shortText, attendeeRoleF, participationF, kindF, attendeeF, fieldF, fieldValueF, conflictF, refusedF}
-use Rattle.model.specs.Merge.{Merged, verdict, unreported, conflicting, refusing, merge-part, with-participation, rest, display-address, whole-entry, own-removed, own-reply, own-standing, own-entry}
+use Rattle.model.specs.Merge.{Verdict, Merged, verdict, unreported, conflicting, refusing, merge-part, with-participation, rest, display-address, whole-entry, own-removed, own-reply, own-standing, own-entry}
 use Rattle.model.proofs.ValidParts.{none-ok, some-ok, ok-some}
-use Rattle.comparison.specs.Bytes.{meantVerdict, verdictOf, isOurs, isConflict, isRefused}
-use Rattle.comparison.specs.declared.Verdict.{Verdict}
-use Rattle.comparison.specs.declared.Verdict.the-variants.{Theirs, Ours, Conflict, Refused}
-use Rattle.comparison.proofs.Laws.{same-nil, same-short, same-long, same-cons, verdict-means}
+use Rattle.comparison.specs.Bytes.{raw, isOurs, isConflict, isRefused}
+use Rattle.comparison.proofs.Laws.{same-nil, same-short, same-long, same-cons, verdict-raw}
 use Rattle.attendees.specs.Entries.{entryEnc, headOf, replyOf, kindOf, sameRest, judgeWhole, judgeRemoved, judgeStanding, judgeOwn, judgeOf, entryValueItems, sideBytes, entryRefused, entryConflict, entryItems}
 use Rattle.attendees.proofs.Laws.{one-byte}
 use Rattle.attendees.proofs.Shown.{enc-cons, present, shown-enc}
@@ -29,21 +27,21 @@ use Rattle.merge.proofs.Items.{encs, one-item, one-of, one-same, items}
 
 -- a part that is judged so
 abbrev pub judged : {A : Type 0} → Verdict → (A → FieldValue) → Field → Option Text → A → A → A → Merged A
-judged Theirs value field attendee b o t = unreported t
-judged Ours value field attendee b o t = unreported o
-judged Conflict value field attendee b o t = conflicting field attendee (value b) (value o) (value t) t
-judged Refused value field attendee b o t = refusing field attendee t
+judged Verdict.Theirs value field attendee b o t = unreported t
+judged Verdict.Ours value field attendee b o t = unreported o
+judged Verdict.Conflict value field attendee b o t = conflicting field attendee (value b) (value o) (value t) t
+judged Verdict.Refused value field attendee b o t = refusing field attendee t
 
 module _ {A : Type 0} (f : Format A) (value : A → FieldValue) (field : Field) (attendee : Option Text) (owned : Bool) (b o t : A) where
-  by-verdict : (v : Verdict) → meantVerdict v ≡ verdict f b o t owned → merge-part f value field attendee owned b o t ≡ judged v value field attendee b o t
+  by-verdict : (v : Verdict) → v ≡ verdict f b o t owned → merge-part f value field attendee owned b o t ≡ judged v value field attendee b o t
   unfolding merge-part
-  by-verdict Theirs e = rw (← e, merge-part)
-  by-verdict Ours e = rw (← e, merge-part)
-  by-verdict Conflict e = rw (← e, merge-part)
-  by-verdict Refused e = rw (← e, merge-part)
+  by-verdict Verdict.Theirs e = rw (← e, merge-part)
+  by-verdict Verdict.Ours e = rw (← e, merge-part)
+  by-verdict Verdict.Conflict e = rw (← e, merge-part)
+  by-verdict Verdict.Refused e = rw (← e, merge-part)
 
-  pub part-judged : merge-part f value field attendee owned b o t ≡ judged (verdictOf (f .enc b) (f .enc o) (f .enc t) owned) value field attendee b o t
-  part-judged = by-verdict (verdictOf (f .enc b) (f .enc o) (f .enc t) owned) (verdict-means f b o t owned)
+  pub part-judged : merge-part f value field attendee owned b o t ≡ judged (verdict raw (f .enc b) (f .enc o) (f .enc t) owned) value field attendee b o t
+  part-judged = by-verdict (verdict raw (f .enc b) (f .enc o) (f .enc t) owned) (verdict-raw f b o t owned)
 
 -- an entry's bytes are what comes before the reply, the reply, and the kind
 abbrev before : Attendee → List ℕ
@@ -147,8 +145,8 @@ same-entry (some a) none = rw (none-enc, some-enc a, same-cons 1 0 (attendeeF .e
 same-entry (some a) (some b) = rw (some-enc a, some-enc b, same-cons 1 1 (attendeeF .enc a) (attendeeF .enc b))
 
 pub verdict-entry : (x y z : Option Attendee) (owned : Bool)
-    → verdictOf (entryEnc x) (entryEnc y) (entryEnc z) owned ≡ verdictOf (option attendeeF .enc x) (option attendeeF .enc y) (option attendeeF .enc z) owned
-unfolding verdictOf
+    → verdict raw (entryEnc x) (entryEnc y) (entryEnc z) owned ≡ verdict raw (option attendeeF .enc x) (option attendeeF .enc y) (option attendeeF .enc z) owned
+unfolding verdict same
 verdict-entry x y z owned = rw (same-entry y x, same-entry y z, same-entry z x)
 
 not-empty : (a : Attendee) → eqb (length (attendeeF .enc a)) 0 ≡ false
@@ -203,16 +201,16 @@ module _ (which : ℕ) (x y z : Option Attendee) (p : option attendeeF .Ok x) (q
       (cond (isConflict v) (entryConflict (entryEnc x) (entryEnc y) (entryEnc z) ∷ []) []) (cond (isRefused v) (entryRefused (entryEnc x) (entryEnc y) (entryEnc z) ∷ []) [])
       ≡ items which one-item (judged v FieldValue.Attendee Field.Attendees (some (display-address x y z)) x y z)
   unfolding unreported conflicting refusing
-  entry-by Theirs = one-same which (value-enc z) refl refl
-  entry-by Ours = one-same which (value-enc y) refl refl
-  entry-by Conflict = one-same which (value-enc z) (ap (λ (t : List ℕ). t ∷ []) (conflict-enc x y z p q r)) refl
-  entry-by Refused = one-same which (value-enc z) refl (ap (λ (t : List ℕ). t ∷ []) (refused-enc x y z p q r))
+  entry-by Verdict.Theirs = one-same which (value-enc z) refl refl
+  entry-by Verdict.Ours = one-same which (value-enc y) refl refl
+  entry-by Verdict.Conflict = one-same which (value-enc z) (ap (λ (t : List ℕ). t ∷ []) (conflict-enc x y z p q r)) refl
+  entry-by Verdict.Refused = one-same which (value-enc z) refl (ap (λ (t : List ℕ). t ∷ []) (refused-enc x y z p q r))
 
   pub whole-items : (owned : Bool) → entryItems which (judgeWhole (entryEnc x) (entryEnc y) (entryEnc z) owned) (entryEnc x) (entryEnc y) (entryEnc z)
       ≡ items which one-item (whole-entry owned x y z)
   unfolding entryItems whole-entry
   whole-items owned =
-      rw (verdict-entry x y z owned) (entry-by (verdictOf (option attendeeF .enc x) (option attendeeF .enc y) (option attendeeF .enc z) owned))
+      rw (verdict-entry x y z owned) (entry-by (verdict raw (option attendeeF .enc x) (option attendeeF .enc y) (option attendeeF .enc z) owned))
       ∙ ap (λ (m : Merged (Option Attendee)). items which one-item m) (sym (part-judged (option attendeeF) FieldValue.Attendee Field.Attendees (some (display-address x y z)) owned x y z))
 
 -- the reply's bytes
@@ -251,30 +249,34 @@ value-with t n =
     rw (not-empty t, head-enc t, kind-enc t)
     (ap (λ (x : List ℕ). x ∷ []) (sym (enc-is (with-participation n t))))
 
-unowned : (b o t : Attendee) → verdictOf (attendeeF .enc b) (attendeeF .enc o) (attendeeF .enc t) false ≡ cond (same attendeeF o b || same attendeeF o t) Theirs Refused
-unfolding verdictOf same
-unowned b o t = refl
+unowned : (b o t : Attendee) → verdict raw (attendeeF .enc b) (attendeeF .enc o) (attendeeF .enc t) false ≡ cond (same attendeeF o b || same attendeeF o t) Verdict.Theirs Verdict.Refused
+unfolding verdict same if_then_else_
+unowned b o t = go (same attendeeF o b || same attendeeF o t)
+  where
+    go : (c : Bool) → (if c then Verdict.Theirs else Verdict.Refused) ≡ cond c Verdict.Theirs Verdict.Refused
+    go true = refl
+    go false = refl
 
 -- the reply, judged
 abbrev replied : Verdict → Attendee → Attendee → Attendee → Merged Participation
-replied Theirs b o t = unreported (t .participation)
-replied Ours b o t = unreported (o .participation)
-replied Conflict b o t = conflicting Field.Attendees (some (t .address)) (FieldValue.Attendee (some b)) (FieldValue.Attendee (some o)) (FieldValue.Attendee (some t)) (t .participation)
-replied Refused b o t = unreported (t .participation)
+replied Verdict.Theirs b o t = unreported (t .participation)
+replied Verdict.Ours b o t = unreported (o .participation)
+replied Verdict.Conflict b o t = conflicting Field.Attendees (some (t .address)) (FieldValue.Attendee (some b)) (FieldValue.Attendee (some o)) (FieldValue.Attendee (some t)) (t .participation)
+replied Verdict.Refused b o t = unreported (t .participation)
 
-reply-by : (b o t : Attendee) (v : Verdict) → meantVerdict v ≡ verdict participationF (b .participation) (o .participation) (t .participation) true → own-reply b o t ≡ replied v b o t
+reply-by : (b o t : Attendee) (v : Verdict) → v ≡ verdict participationF (b .participation) (o .participation) (t .participation) true → own-reply b o t ≡ replied v b o t
 unfolding own-reply
-reply-by b o t Theirs e = rw (← e, own-reply)
-reply-by b o t Ours e = rw (← e, own-reply)
-reply-by b o t Conflict e = rw (← e, own-reply)
-reply-by b o t Refused e = rw (← e, own-reply)
+reply-by b o t Verdict.Theirs e = rw (← e, own-reply)
+reply-by b o t Verdict.Ours e = rw (← e, own-reply)
+reply-by b o t Verdict.Conflict e = rw (← e, own-reply)
+reply-by b o t Verdict.Refused e = rw (← e, own-reply)
 
 abbrev reply-verdict : Attendee → Attendee → Attendee → Verdict
-reply-verdict b o t = verdictOf (participationFrom (b .participation) ∷ []) (participationFrom (o .participation) ∷ []) (participationFrom (t .participation) ∷ []) true
+reply-verdict b o t = verdict raw (participationFrom (b .participation) ∷ []) (participationFrom (o .participation) ∷ []) (participationFrom (t .participation) ∷ []) true
 
-reply-means : (b o t : Attendee) → meantVerdict (reply-verdict b o t) ≡ verdict participationF (b .participation) (o .participation) (t .participation) true
+reply-means : (b o t : Attendee) → reply-verdict b o t ≡ verdict participationF (b .participation) (o .participation) (t .participation) true
 unfolding participationF via below
-reply-means b o t = verdict-means participationF (b .participation) (o .participation) (t .participation) true
+reply-means b o t = verdict-raw participationF (b .participation) (o .participation) (t .participation) true
 
 reply-judged : (b o t : Attendee) → own-reply b o t ≡ replied (reply-verdict b o t) b o t
 reply-judged b o t = reply-by b o t (reply-verdict b o t) (reply-means b o t)
@@ -294,18 +296,18 @@ module _ (which : ℕ) (b o t : Attendee) (p : attendeeF .Ok b) (q : attendeeF .
       (cond (isConflict v) (entryConflict (attendeeF .enc b) (attendeeF .enc o) (attendeeF .enc t) ∷ []) [])
       (cond (not c) (entryRefused (attendeeF .enc b) (attendeeF .enc o) (attendeeF .enc t) ∷ []) [])
       ≡ one-of which
-      (one-item (some (with-participation (replied v b o t .value) (the-rest (cond c Theirs Refused) .value))))
-      (encs (conflictF .enc) (the-rest (cond c Theirs Refused) .conflicts ++ replied v b o t .conflicts))
-      (encs (refusedF .enc) (the-rest (cond c Theirs Refused) .refused ++ replied v b o t .refused))
+      (one-item (some (with-participation (replied v b o t .value) (the-rest (cond c Verdict.Theirs Verdict.Refused) .value))))
+      (encs (conflictF .enc) (the-rest (cond c Verdict.Theirs Verdict.Refused) .conflicts ++ replied v b o t .conflicts))
+      (encs (refusedF .enc) (the-rest (cond c Verdict.Theirs Verdict.Refused) .refused ++ replied v b o t .refused))
   unfolding unreported conflicting refusing rest with-participation display-address
-  by-both true Theirs = one-same which (value-with t (t .participation)) refl refl
-  by-both true Ours = one-same which (value-with t (o .participation)) refl refl
-  by-both true Conflict = one-same which (value-with t (t .participation)) clashes refl
-  by-both true Refused = one-same which (value-with t (t .participation)) refl refl
-  by-both false Theirs = one-same which (value-with t (t .participation)) refl denied
-  by-both false Ours = one-same which (value-with t (o .participation)) refl denied
-  by-both false Conflict = one-same which (value-with t (t .participation)) clashes denied
-  by-both false Refused = one-same which (value-with t (t .participation)) refl denied
+  by-both true Verdict.Theirs = one-same which (value-with t (t .participation)) refl refl
+  by-both true Verdict.Ours = one-same which (value-with t (o .participation)) refl refl
+  by-both true Verdict.Conflict = one-same which (value-with t (t .participation)) clashes refl
+  by-both true Verdict.Refused = one-same which (value-with t (t .participation)) refl refl
+  by-both false Verdict.Theirs = one-same which (value-with t (t .participation)) refl denied
+  by-both false Verdict.Ours = one-same which (value-with t (o .participation)) refl denied
+  by-both false Verdict.Conflict = one-same which (value-with t (t .participation)) clashes denied
+  by-both false Verdict.Refused = one-same which (value-with t (t .participation)) refl denied
 
   abbrev both : Merged Attendee → Merged Participation → Merged (Option Attendee)
   both m n = record {
@@ -317,12 +319,12 @@ module _ (which : ℕ) (b o t : Attendee) (p : attendeeF .Ok b) (q : attendeeF .
   abbrev unchanged : Bool
   unchanged = same attendeeF (rest o) (rest b) || same attendeeF (rest o) (rest t)
 
-  standing-is : own-standing b o t ≡ both (the-rest (cond unchanged Theirs Refused)) (replied (reply-verdict b o t) b o t)
+  standing-is : own-standing b o t ≡ both (the-rest (cond unchanged Verdict.Theirs Verdict.Refused)) (replied (reply-verdict b o t) b o t)
   unfolding own-standing
   standing-is =
       ap (λ (m : Merged Attendee). both m (own-reply b o t)) (part-judged attendeeF (λ r. FieldValue.Attendee (some r)) Field.Attendees (some (t .address)) false (rest b) (rest o) (rest t)
       ∙ ap the-rest (unowned (rest b) (rest o) (rest t)))
-      ∙ ap (λ (n : Merged Participation). both (the-rest (cond unchanged Theirs Refused)) n) (reply-judged b o t)
+      ∙ ap (λ (n : Merged Participation). both (the-rest (cond unchanged Verdict.Theirs Verdict.Refused)) n) (reply-judged b o t)
 
   pub standing-items : entryItems which (judgeStanding (attendeeF .enc b) (attendeeF .enc o) (attendeeF .enc t)) (attendeeF .enc b) (attendeeF .enc o) (attendeeF .enc t)
       ≡ items which one-item (own-standing b o t)

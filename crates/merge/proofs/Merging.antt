@@ -12,12 +12,10 @@ use Rattle.model.specs.Parts.{Role, Field, FieldValue}
 use Rattle.model.specs.Limits.{max-attendees}
 use Rattle.model.specs.Shapes.{fieldFrom}
 use Rattle.model.specs.Formats.{shortText, tag, organizerF, attendeeF, statusF, transparencyF, visibilityF, fieldsF, fieldF, fieldValueF, conflictF, refusedF}
-use Rattle.model.specs.Merge.{Merged, unreported, conflicting, refusing, merge-part, is-owner, Key, Keyed, keyed, entry-at, extend, entries-at, key-order, merge-attendees, merge}
+use Rattle.model.specs.Merge.{Verdict, verdict, Merged, unreported, conflicting, refusing, merge-part, is-owner, Key, Keyed, keyed, entry-at, extend, entries-at, key-order, merge-attendees, merge}
 use Rattle.model.proofs.MergeKeys.{order-length, length-keyed}
 use Rattle.frame.specs.Read.{start}
-use Rattle.comparison.specs.Bytes.{verdictOf}
-use Rattle.comparison.specs.declared.Verdict.{Verdict}
-use Rattle.comparison.specs.declared.Verdict.the-variants.{Theirs, Ours, Conflict, Refused}
+use Rattle.comparison.specs.Bytes.{raw}
 use Rattle.units.specs.Units.{unitBytes, unitItems, unitsItems, valueItem, conflictItems, refusedItems, ownedUnit}
 use Rattle.merge.specs.Reports.{attendeeItems, reportItems, fieldBytes}
 use Rattle.merge.proofs.Stood.{Stood, stood-alone}
@@ -34,15 +32,15 @@ module _ {A : Type 0} (which : ℕ) (f : Format A) (value : A → FieldValue) (f
   by-verdict : (v : Verdict) → one-of which (valueItem v (f .enc o) (f .enc t) ∷ []) (conflictItems v (fieldFrom field) (f .enc b) (f .enc o) (f .enc t)) (refusedItems v (fieldFrom field))
       ≡ items which one (judged v value field none b o t)
   unfolding unreported conflicting refusing conflictF refusedF fieldF option via _⊗_ enum _∣_ nothing below
-  by-verdict Theirs = refl
-  by-verdict Ours = refl
-  by-verdict Conflict = one-same which refl (rw (is b, is o, is t)) refl
-  by-verdict Refused = refl
+  by-verdict Verdict.Theirs = refl
+  by-verdict Verdict.Ours = refl
+  by-verdict Verdict.Conflict = one-same which refl (rw (is b, is o, is t)) refl
+  by-verdict Verdict.Refused = refl
 
   pub unit-is : (owned : Bool) → unitItems which (fieldFrom field) (f .enc b) (f .enc o) (f .enc t) owned ≡ items which one (merge-part f value field none owned b o t)
   unfolding unitItems
   unit-is owned =
-      by-verdict (verdictOf (f .enc b) (f .enc o) (f .enc t) owned) ∙ ap (λ (m : Merged A). items which one m) (sym (part-judged f value field none owned b o t))
+      by-verdict (verdict raw (f .enc b) (f .enc o) (f .enc t) owned) ∙ ap (λ (m : Merged A). items which one m) (sym (part-judged f value field none owned b o t))
 
 -- a unit's value as a field's value: the field's place and the same bytes
 

@@ -9,11 +9,11 @@ use borrow.Author.Tests.{eq-eqb, ne-eqb}
 use Rattle.format.specs.Format.{below, option, list}
 use Rattle.model.specs.Limits.{max-attendees}
 use Rattle.model.specs.Formats.{shortText, tag, organizerF, attendeeF}
+use Rattle.model.specs.Merge.{Verdict, verdict}
 use Rattle.frame.proofs.Chains.{skips-status, skips-transparency, skips-visibility}
 use Rattle.frame.specs.Read.{skips, start}
 use Rattle.frame.specs.declared.Cursor.{Cursor}
-use Rattle.comparison.specs.Bytes.{verdictOf, isOurs, isConflict, isRefused, span}
-use Rattle.comparison.specs.declared.Verdict.{Verdict}
+use Rattle.comparison.specs.Bytes.{raw, isOurs, isConflict, isRefused, span}
 use Rattle.pens.specs.Writing.{Wrote, Listed}
 use Rattle.pens.specs.declared.Pen.{Pen}
 use Rattle.pens.proofs.Laws.{listed-one, listed-none}
@@ -92,7 +92,7 @@ module _ (s : List ℕ) (p : Pen) (n : ℕ) where
   pub refused-none : (v : Verdict) (k : ℕ) → isRefused v ≡ false → Listed s s p n p n (refusedItems v k)
   refused-none v k e = rw e (listed-none s p n)
 
-module _ (which k : ℕ) (b o t : List ℕ) (owned : Bool) (v : Verdict) (e : v ≡ verdictOf b o t owned) where
+module _ (which k : ℕ) (b o t : List ℕ) (owned : Bool) (v : Verdict) (e : v ≡ verdict raw b o t owned) where
   pub unit-value : which ≡ 0 → (valueItem v o t ∷ []) ≡ unitItems which k b o t owned
   unfolding unitItems
   unit-value h = rw (e, eq-eqb which 0 h)

@@ -6,10 +6,10 @@ use lib.Dec.{eqb}
 use Rattle.format.specs.Format.{option, list}
 use Rattle.model.specs.Limits.{max-attendees}
 use Rattle.model.specs.Formats.{shortText, tag, organizerF, attendeeF, statusF, transparencyF, visibilityF}
+use Rattle.model.specs.Merge.{Verdict, verdict}
 use Rattle.frame.specs.Read.{skips, start}
 use Rattle.frame.specs.declared.Cursor.{Cursor}
-use Rattle.comparison.specs.Bytes.{verdictOf, isOurs, isConflict, isRefused, span}
-use Rattle.comparison.specs.declared.Verdict.{Verdict}
+use Rattle.comparison.specs.Bytes.{raw, isOurs, isConflict, isRefused, span}
 
 abbrev pub valueItem : Verdict → List ℕ → List ℕ → List ℕ
 valueItem v o t = cond (isOurs v) o t
@@ -26,9 +26,9 @@ refusedItems v k = cond (isRefused v) ((k ∷ 0 ∷ []) ∷ []) []
 -- of the merged fields (0), the conflicts (1), the refused (2)
 unfoldable pub unitItems : (which k : ℕ) (b o t : List ℕ) → Bool → List (List ℕ)
 unitItems which k b o t owned =
-    cond (eqb which 0) (valueItem (verdictOf b o t owned) o t ∷ [])
-    (cond (eqb which 1) (conflictItems (verdictOf b o t owned) k b o t)
-    (refusedItems (verdictOf b o t owned) k))
+    cond (eqb which 0) (valueItem (verdict raw b o t owned) o t ∷ [])
+    (cond (eqb which 1) (conflictItems (verdict raw b o t owned) k b o t)
+    (refusedItems (verdict raw b o t owned) k))
 
 -- reminders are always owned
 abbrev pub ownedUnit : Bool → ℕ → Bool

@@ -2,6 +2,7 @@
 ghost use mathlib.Core.Path.{_≡_};
 ghost use mathlib.Core.List.{[], _∷_};
 ghost use Prim.Native.Nat.{_-_};
+ghost use Rattle.comparison.specs.Bytes.{meantVerdict};
 ghost use Rattle.pens.specs.Writing.{Wrote, Listed};
 ghost use Rattle.units.specs.Units.{valueItem, conflictItems, refusedItems, unitItems, ownedUnit, skipUnit, unitAt, unitBytes, unitsItems};
 use comparison::CONFLICTS;
@@ -97,7 +98,7 @@ fn unit(
 }
 
 fn unit_value(sheet: Sheet, out: &mut [u8], v: Verdict, o: &[u8], t: &[u8]) -> Sheet
-    ensures { λ r. ⌜ Listed (now (out .entry)) (now (out .exit)) (sheet .pen) (sheet .count) (r .pen) (r .count) (valueItem v (now (o .entry)) (now (t .entry)) ∷ []) ⌝ }
+    ensures { λ r. ⌜ Listed (now (out .entry)) (now (out .exit)) (sheet .pen) (sheet .count) (r .pen) (r .count) (valueItem (meantVerdict v) (now (o .entry)) (now (t .entry)) ∷ []) ⌝ }
 {
     let pen = sheet.pen;
     let count = sheet.count;
@@ -128,7 +129,7 @@ fn unit_conflict(
     o: &[u8],
     t: &[u8],
 ) -> Sheet
-    ensures { λ r. ⌜ Listed (now (out .entry)) (now (out .exit)) (sheet .pen) (sheet .count) (r .pen) (r .count) (conflictItems v k (now (b .entry)) (now (o .entry)) (now (t .entry))) ⌝ }
+    ensures { λ r. ⌜ Listed (now (out .entry)) (now (out .exit)) (sheet .pen) (sheet .count) (r .pen) (r .count) (conflictItems (meantVerdict v) k (now (b .entry)) (now (o .entry)) (now (t .entry))) ⌝ }
 {
     let pen = sheet.pen;
     let count = sheet.count;
@@ -144,7 +145,7 @@ fn unit_conflict(
 }
 
 fn unit_refused(sheet: Sheet, out: &mut [u8], v: Verdict, k: u8) -> Sheet
-    ensures { λ r. ⌜ Listed (now (out .entry)) (now (out .exit)) (sheet .pen) (sheet .count) (r .pen) (r .count) (refusedItems v k) ⌝ }
+    ensures { λ r. ⌜ Listed (now (out .entry)) (now (out .exit)) (sheet .pen) (sheet .count) (r .pen) (r .count) (refusedItems (meantVerdict v) k) ⌝ }
 {
     let pen = sheet.pen;
     let count = sheet.count;

@@ -1,4 +1,5 @@
 use borrow.Author.Tests.{not-true, not-false}
+use Rattle.comparison.specs.Bytes.{meantVerdict}
 use Rattle.units.proofs.Laws as laws
 use Rattle.pens.proofs.Laws as pens
 use mathlib.Core.Path.{sym, _∙_}
@@ -10,7 +11,7 @@ is-refused-requires : tie.Need-is-refused-requires
 is-refused-requires c κs = search needs
 
 returns : tie.Need-returns
-returns c = laws.refused-none (c .before .before .before .before .args .out .now) (c .before .before .before .before .args .sheet .pen) (c .before .before .before .before .args .sheet .count) (c .before .before .before .before .args .v) (c .before .before .before .before .args .k) (sym (c .before .is-refused .ensures) ∙ not-true _ (c .if1 .taken))
+returns c = laws.refused-none (c .before .before .before .before .args .out .now) (c .before .before .before .before .args .sheet .pen) (c .before .before .before .before .args .sheet .count) (meantVerdict (c .before .before .before .before .args .v)) (c .before .before .before .before .args .k) (sym (c .before .is-refused .ensures) ∙ not-true _ (c .if1 .taken))
 
 byte-requires : tie.Need-byte-requires
 byte-requires c κs = search needs
@@ -25,7 +26,7 @@ same-length : tie.Need-same-length
 same-length c = search needs
 
 returns-2 : tie.Need-returns-2
-returns-2 c = laws.refused-some (c .before .before .before .before .before .before .before .before .before .before .before .before .before .args .v) (c .before .before .before .before .before .before .before .before .before .before .before .before .before .args .k) (sym (c .before .before .before .before .before .before .before .before .before .before .is-refused .ensures) ∙ not-false _ (c .before .before .before .before .before .before .before .before .before .if1 .left)) (pens.wrote-then (c .before .before .before .before .before .before .before .byte .ensures) (c .before .before .before .byte2 .ensures)) (c .more .ensures)
+returns-2 c = laws.refused-some (meantVerdict (c .before .before .before .before .before .before .before .before .before .before .before .before .before .args .v)) (c .before .before .before .before .before .before .before .before .before .before .before .before .before .args .k) (sym (c .before .before .before .before .before .before .before .before .before .before .is-refused .ensures) ∙ not-false _ (c .before .before .before .before .before .before .before .before .before .if1 .left)) (pens.wrote-then (c .before .before .before .before .before .before .before .byte .ensures) (c .before .before .before .byte2 .ensures)) (c .more .ensures)
 
 pub unit-refused-spec : {M : Type 1} → statement M
 unit-refused-spec =
