@@ -38,7 +38,7 @@ use Rattle.machine.specs.Contract.{Does}
 use Rattle.machine.proofs.Runs as runs
 use Rattle.queues.specs.declared.head.Beginning.{Beginning}
 use Rattle.queues.specs.declared.head.Beginning.the-variants as Begin
-use Rattle.queues.specs.Heads.{begins-write, begins-delete, begins-by, begins-as, created, created-by, notify-at}
+use Rattle.queues.specs.Heads.{Start, meantBeginning, begins-write, begins-delete, begins-by, begins-as, created, created-by, notify-at}
 use Rattle.queues.proofs.Heads.{head-is}
 
 -- ---- how a head begins
@@ -53,7 +53,7 @@ unfolding by-attendee is-attendee
 attendee-is Role.Owner = refl
 attendee-is (Role.Attendee a) = refl
 
-begins-nothing : (x : Option Pending) → 3 ≡ operation-case-of x → Begin.Nothing ≡ begins-as x
+begins-nothing : (x : Option Pending) → 3 ≡ operation-case-of x → Start.Nothing ≡ begins-as x
 unfolding operation-case-of begins-as
 begins-nothing none e = refl
 begins-nothing (some p) e = absurd (no-case (p .edit .operation) (sym e))
@@ -78,18 +78,18 @@ begins-deleting (some p) b e k = go (p .edit .operation) e
     go (Operation.Update base ours) e = absurd (omega arith)
     go Operation.Delete e = ap begins-delete (k ∙ attendee-is (p .edit .role))
 
-begins-reading : (x : Option Pending) (c : ℕ) → c ≡ operation-case-of x → (c ≡ 3 → ⊥) → (c ≡ 0 → ⊥) → (c ≡ 2 → ⊥) → Begin.Read ≡ begins-as x
+begins-reading : (x : Option Pending) (c : ℕ) → c ≡ operation-case-of x → (c ≡ 3 → ⊥) → (c ≡ 0 → ⊥) → (c ≡ 2 → ⊥) → Start.Read ≡ begins-as x
 unfolding operation-case-of begins-as begins-by
 begins-reading none c e a b d = absurd (a e)
 begins-reading (some p) c e a b d = go (p .edit .operation) e
   where
-    go : (o : Operation) → c ≡ case-of o → Begin.Read ≡ begins-by o (p .edit .role)
+    go : (o : Operation) → c ≡ case-of o → Start.Read ≡ begins-by o (p .edit .role)
     go (Operation.Create event) e = absurd (b e)
     go (Operation.Update base ours) e = refl
     go Operation.Delete e = absurd (d e)
 
 module _ (r : ResourceId) {w : List ℕ} {c : ℕ} (C : Reads (λ s. operation-case-of (nth 0 (queue r s))) w c) where
-  pub begin-none : c ≡ 3 → Reads (λ s. begins-as (nth 0 (queue r s))) w Begin.Nothing
+  pub begin-none : c ≡ 3 → Reads (λ s. begins-as (nth 0 (queue r s))) w Start.Nothing
   begin-none e = record { is = λ s h. begins-nothing (nth 0 (queue r s)) (sym e ∙ C .is s h) }
 
   pub begin-write : (b b′ : Bool) → c ≡ 0 → Reads (λ s. is-some-and (λ p. creates-under-key (p .edit .operation)) (nth 0 (queue r s))) w b → b ≡ b′ → Reads (λ s. begins-as (nth 0 (queue r s))) w (begins-write b′)
@@ -98,7 +98,7 @@ module _ (r : ResourceId) {w : List ℕ} {c : ℕ} (C : Reads (λ s. operation-c
   pub begin-delete : (b b′ : Bool) → c ≡ 2 → Reads (λ s. is-some-and (λ p. by-attendee (p .edit .role)) (nth 0 (queue r s))) w b → b ≡ b′ → Reads (λ s. begins-as (nth 0 (queue r s))) w (begins-delete b′)
   begin-delete b b′ e L k = record { is = λ s h. begins-deleting (nth 0 (queue r s)) b′ (sym e ∙ C .is s h) (sym k ∙ L .is s h) }
 
-  pub begin-read : (c ≡ 3 → ⊥) → (c ≡ 0 → ⊥) → (c ≡ 2 → ⊥) → Reads (λ s. begins-as (nth 0 (queue r s))) w Begin.Read
+  pub begin-read : (c ≡ 3 → ⊥) → (c ≡ 0 → ⊥) → (c ≡ 2 → ⊥) → Reads (λ s. begins-as (nth 0 (queue r s))) w Start.Read
   begin-read x y z = record { is = λ s h. begins-reading (nth 0 (queue r s)) c (C .is s h) x y z }
 
 -- ---- start_edit
@@ -110,28 +110,28 @@ reads-any f H = record {
 }
 
 -- cases told apart by a number
-abbrev number-of : Beginning → ℕ
-number-of Begin.Nothing = 0
-number-of Begin.Create = 1
-number-of Begin.Read = 2
-number-of Begin.NotOwner = 3
+abbrev number-of : Start → ℕ
+number-of Start.Nothing = 0
+number-of Start.Create = 1
+number-of Start.Read = 2
+number-of (Start.Finish rejection) = 3
 
 abbrev started : ResourceId → Option Pending → Machine → Run
 started r x m = match x none: ok m some: (λ p. start-head r (p .edit .operation) (p .edit .role) (finish r (some Rejection.NotOwner) m) m)
 
 -- what `start-head` does, by how the head begins
-abbrev begun : Beginning → Run → Run → Run → Run → Run
-begun Begin.Nothing a b c d = a
-begun Begin.Create a b c d = b
-begun Begin.Read a b c d = c
-begun Begin.NotOwner a b c d = d
+abbrev begun : Start → Run → Run → Run → (Rejection → Run) → Run
+begun Start.Nothing a b c d = a
+begun Start.Create a b c d = b
+begun Start.Read a b c d = c
+begun (Start.Finish rejection) a b c d = d rejection
 
-writes-so : (b : Bool) (x y z u : Run) → begun (begins-write b) x y z u ≡ (if b then z else y)
+writes-so : (b : Bool) (x y z : Run) (u : Rejection → Run) → begun (begins-write b) x y z u ≡ (if b then z else y)
 unfolding if_then_else_
 writes-so true x y z u = refl
 writes-so false x y z u = refl
 
-deletes-so : (b : Bool) (x y z u : Run) → begun (begins-delete b) x y z u ≡ (if b then u else z)
+deletes-so : (b : Bool) (x y z : Run) (u : Rejection → Run) → begun (begins-delete b) x y z u ≡ (if b then u Rejection.NotOwner else z)
 unfolding if_then_else_
 deletes-so true x y z u = refl
 deletes-so false x y z u = refl
@@ -142,18 +142,18 @@ module _ (r : ResourceId) (m : Machine) where
   written none = ok m
   written (some event) = request (Purpose.EditWrite r) (seam.Request.Create r event) m
 
-  starts-op : (o : Operation) (x : Role) (k : Run) → start-head r o x k m ≡ begun (begins-by o x) (ok m) (written (created-by o)) (read-for-edit r m) k
+  starts-op : (o : Operation) (x : Role) (k : Rejection → Run) → start-head r o x (k Rejection.NotOwner) m ≡ begun (begins-by o x) (ok m) (written (created-by o)) (read-for-edit r m) k
   unfolding start-head begins-by created-by
   starts-op (Operation.Create event) x k = sym (writes-so (assigns-ids event) (ok m) (written (some event)) (read-for-edit r m) k)
   starts-op (Operation.Update base ours) x k = refl
   starts-op Operation.Delete x k = sym (deletes-so (is-attendee x) (ok m) (ok m) (read-for-edit r m) k)
 
-  starts-as : (x : Option Pending) → started r x m ≡ begun (begins-as x) (ok m) (written (created x)) (read-for-edit r m) (finish r (some Rejection.NotOwner) m)
+  starts-as : (x : Option Pending) → started r x m ≡ begun (begins-as x) (ok m) (written (created x)) (read-for-edit r m) (λ rejection. finish r (some rejection) m)
   unfolding begins-as created match_none:_some:_
   starts-as none = refl
-  starts-as (some p) = starts-op (p .edit .operation) (p .edit .role) (finish r (some Rejection.NotOwner) m)
+  starts-as (some p) = starts-op (p .edit .operation) (p .edit .role) (λ rejection. finish r (some rejection) m)
 
-  pub start-is : T (rising by-name (keys (m .state .edits))) → start-edit r m ≡ begun (begins-as (nth 0 (queue r (m .state)))) (ok m) (written (created (nth 0 (queue r (m .state))))) (read-for-edit r m) (finish r (some Rejection.NotOwner) m)
+  pub start-is : T (rising by-name (keys (m .state .edits))) → start-edit r m ≡ begun (begins-as (nth 0 (queue r (m .state)))) (ok m) (written (created (nth 0 (queue r (m .state))))) (read-for-edit r m) (λ rejection. finish r (some rejection) m)
   start-is t = start-edit-is r m t ∙ ap (λ (x : Option Pending). started r x m) (sym (head-is r m)) ∙ starts-as (nth 0 (queue r (m .state)))
 
 -- a head that is to be written has an event
@@ -172,29 +172,29 @@ unfolding begins-as created
 event-in none e = absurd (omega arith)
 event-in (some p) e = event-by (p .edit .operation) (p .edit .role) e
 
-pub start-nothing : (r : ResourceId) {w o : List ℕ} {p : Progress} {b : Beginning} → Reads (λ s. begins-as (nth 0 (queue r s))) w b → b ≡ Begin.Nothing → Does (start-edit r) w o p p w o
+pub start-nothing : (r : ResourceId) {w o : List ℕ} {p : Progress} {b : Beginning} → Reads (λ s. begins-as (nth 0 (queue r s))) w (meantBeginning b) → b ≡ Begin.Nothing → Does (start-edit r) w o p p w o
 start-nothing r B e = runs.is-held (start-edit r)
-    (λ m h. sym (start-is r m (h .keeps .fits .edits .rises) ∙ ap (λ (x : Beginning). begun x (ok m) (written r m (created (nth 0 (queue r (m .state))))) (read-for-edit r m) (finish r (some Rejection.NotOwner) m)) (sym (B .is (m .state) (h .keeps)) ∙ e)))
+    (λ m h. sym (start-is r m (h .keeps .fits .edits .rises) ∙ ap (λ (x : Start). begun x (ok m) (written r m (created (nth 0 (queue r (m .state))))) (read-for-edit r m) (λ rejection. finish r (some rejection) m)) (sym (B .is (m .state) (h .keeps)) ∙ ap meantBeginning e)))
     runs.nothing
 
-module _ (r : ResourceId) {w o w′ o′ : List ℕ} {p q : Progress} {b : Beginning} (B : Reads (λ s. begins-as (nth 0 (queue r s))) w b) where
+module _ (r : ResourceId) {w o w′ o′ : List ℕ} {p q : Progress} {b : Beginning} (B : Reads (λ s. begins-as (nth 0 (queue r s))) w (meantBeginning b)) where
   pub start-read : b ≡ Begin.Read → Does (read-for-edit r) w o p q w′ o′ → Does (start-edit r) w o p q w′ o′
   start-read e d = runs.is-held (start-edit r)
-      (λ m h. sym (start-is r m (h .keeps .fits .edits .rises) ∙ ap (λ (x : Beginning). begun x (ok m) (written r m (created (nth 0 (queue r (m .state))))) (read-for-edit r m) (finish r (some Rejection.NotOwner) m)) (sym (B .is (m .state) (h .keeps)) ∙ e)))
+      (λ m h. sym (start-is r m (h .keeps .fits .edits .rises) ∙ ap (λ (x : Start). begun x (ok m) (written r m (created (nth 0 (queue r (m .state))))) (read-for-edit r m) (λ rejection. finish r (some rejection) m)) (sym (B .is (m .state) (h .keeps)) ∙ ap meantBeginning e)))
       d
 
   pub start-finish : b ≡ Begin.NotOwner → Does (finish r (some Rejection.NotOwner)) w o p q w′ o′ → Does (start-edit r) w o p q w′ o′
   start-finish e d = runs.is-held (start-edit r)
-      (λ m h. sym (start-is r m (h .keeps .fits .edits .rises) ∙ ap (λ (x : Beginning). begun x (ok m) (written r m (created (nth 0 (queue r (m .state))))) (read-for-edit r m) (finish r (some Rejection.NotOwner) m)) (sym (B .is (m .state) (h .keeps)) ∙ e)))
+      (λ m h. sym (start-is r m (h .keeps .fits .edits .rises) ∙ ap (λ (x : Start). begun x (ok m) (written r m (created (nth 0 (queue r (m .state))))) (read-for-edit r m) (λ rejection. finish r (some rejection) m)) (sym (B .is (m .state) (h .keeps)) ∙ ap meantBeginning e)))
       d
 
   pub start-create : b ≡ Begin.Create → HasState w → ((event : ProviderEvent) → Reads (λ s. created (nth 0 (queue r s))) w (some event) → Does (request (Purpose.EditWrite r) (seam.Request.Create r event)) w o p q w′ o′) → Does (start-edit r) w o p q w′ o′
   start-create e H d =
-      let E = event-in (nth 0 (queue r (H .state))) (ap number-of (sym e ∙ B .is (H .state) (H .keeps))) in
+      let E = event-in (nth 0 (queue r (H .state))) (ap number-of (sym (ap meantBeginning e) ∙ B .is (H .state) (H .keeps))) in
       let R : Reads (λ s. created (nth 0 (queue r s))) w (some (E .0)) = subst (Reads (λ s. created (nth 0 (queue r s))) w) (E .1) (reads-any (λ s. created (nth 0 (queue r s))) H) in
       runs.is-held (start-edit r)
       (λ m h. sym (start-is r m (h .keeps .fits .edits .rises)
-      ∙ ap (λ (x : Beginning). begun x (ok m) (written r m (created (nth 0 (queue r (m .state))))) (read-for-edit r m) (finish r (some Rejection.NotOwner) m)) (sym (B .is (m .state) (h .keeps)) ∙ e)
+      ∙ ap (λ (x : Start). begun x (ok m) (written r m (created (nth 0 (queue r (m .state))))) (read-for-edit r m) (λ rejection. finish r (some rejection) m)) (sym (B .is (m .state) (h .keeps)) ∙ ap meantBeginning e)
       ∙ ap (written r m) (sym (R .is (m .state) (h .keeps)))))
       (d (E .0) R)
 

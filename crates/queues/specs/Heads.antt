@@ -33,21 +33,33 @@ rejection-of frame (By outcome) = some (Rejection.Provider (describe (meantOutco
 
 -- ---- how a head begins, as `start-head` has it
 
-abbrev pub begins-write : Bool → Beginning
-begins-write true = Begin.Read
-begins-write false = Begin.Create
+-- no head; the request that creates its event; `read-for-edit`; `finish` with a rejection
+pub data Start : Type 0 where
+  Nothing Create Read : Start
+  Finish : Rejection → Start
 
-abbrev pub begins-delete : Bool → Beginning
-begins-delete true = Begin.NotOwner
-begins-delete false = Begin.Read
+-- what an answer of `begins` stands for
+abbrev pub meantBeginning : Beginning → Start
+meantBeginning Begin.Nothing = Start.Nothing
+meantBeginning Begin.Create = Start.Create
+meantBeginning Begin.Read = Start.Read
+meantBeginning Begin.NotOwner = Start.Finish Rejection.NotOwner
 
-unfoldable pub begins-by : Operation → Role → Beginning
+abbrev pub begins-write : Bool → Start
+begins-write true = Start.Read
+begins-write false = Start.Create
+
+abbrev pub begins-delete : Bool → Start
+begins-delete true = Start.Finish Rejection.NotOwner
+begins-delete false = Start.Read
+
+unfoldable pub begins-by : Operation → Role → Start
 begins-by (Operation.Create event) role = begins-write (assigns-ids event)
-begins-by (Operation.Update base ours) role = Begin.Read
+begins-by (Operation.Update base ours) role = Start.Read
 begins-by Operation.Delete role = begins-delete (is-attendee role)
 
-unfoldable pub begins-as : Option Pending → Beginning
-begins-as none = Begin.Nothing
+unfoldable pub begins-as : Option Pending → Start
+begins-as none = Start.Nothing
 begins-as (some p) = begins-by (p .edit .operation) (p .edit .role)
 
 -- ---- effects that the state gives

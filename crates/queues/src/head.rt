@@ -9,7 +9,7 @@ ghost use Rattle.state.specs.Contract.{HasState, Reads};
 ghost use Rattle.state.specs.Values.{name-of, Named};
 ghost use Rattle.waiting.specs.Queues.{queue, nth};
 ghost use Rattle.machine.specs.Contract.{Does};
-ghost use Rattle.queues.specs.Heads.{rejection-of, begins-as, created, Sends, create-effect};
+ghost use Rattle.queues.specs.Heads.{rejection-of, meantBeginning, begins-as, created, Sends, create-effect};
 use crate::places::event_at;
 use crate::reading::looks_up;
 use crate::reading::read_for_edit;
@@ -32,7 +32,7 @@ enum Beginning {
 fn begins(work: &[u8], name: Name) -> Beginning
     requires { ⌜ HasState (now work) ⌝ }
     requires { ⌜ Named (name .bytes) ⌝ }
-    ensures { λ r. ⌜ Reads (λ s. begins-as (nth 0 (queue (name-of (name .bytes)) s))) (now (work .entry)) r ⌝ }
+    ensures { λ r. ⌜ Reads (λ s. begins-as (nth 0 (queue (name-of (name .bytes)) s))) (now (work .entry)) (meantBeginning r) ⌝ }
 {
     let case = waiting::operation_case(work, name, 0);
     if case == 3 {
