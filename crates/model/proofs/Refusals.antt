@@ -55,8 +55,16 @@ module _ (limits : Limits) (lent : Lent) (frame : Bytes) where
   coded true (some s) (some input) l e d = coded-step s input (step limits s input) l e d refl
   coded false o i l e d = wrong-length l
 
+  code-only : (n : ℕ) → Coded limits lent frame n → entry limits lent frame .code ≡ n
+  unfolding entry step-bytes if_then_else_ match_none:_some:_ step-frame answered leaves
+  code-only n (wrong-length l) = rw l
+  code-only n (no-state l e) = rw (l, e)
+  code-only n (no-input l e d) = rw (l, e, d)
+  code-only n (in-step l e d h r) = rw (l, e, d, h)
+  code-only n (accepted l e d h) = rw (l, e, d, h)
+
 pub nothing-else-refuses : NothingElseRefuses
 unfolding entry step-bytes
 nothing-else-refuses limits lent frame =
     let why = coded limits lent frame (lengths-right limits lent) (read-state limits (lent .state)) (decode frame) refl refl refl in
-    record { why = why; within = code-within limits lent frame why }
+    record { why = why; only = code-only limits lent frame; within = code-within limits lent frame why }
