@@ -9,7 +9,8 @@ use mathlib.Core.Bool.{Bool, true, false, not}
 use lib.ListN.{length, getD, length-append}
 use lib.Dec.{T, isEq}
 use Rattle.format.specs.Format.{Format, Lawful, All, _⊗_, option, list, stamp, bool, concatMap}
-use Rattle.format.proofs.FormatLaws.{pair-law, option-law, stamp-law, bool-law, list-law}
+use Rattle.format.specs.Format.{padded as in-width}
+use Rattle.format.proofs.FormatLaws.{pair-law, option-law, stamp-law, bool-law, list-law, padded-law}
 use Rattle.format.proofs.SizeLaws.{Within, pair-within, list-within, bool-within}
 use Rattle.spans.specs.Bytes.{zeros, both}
 use Rattle.spans.specs.Compare.{order}
@@ -36,40 +37,38 @@ use Rattle.frame.specs.Read.{start, skips}
 use Rattle.frame.specs.declared.Cursor.{Cursor}
 use Rattle.frame.proofs.Steps.{skips-pair, got-some}
 use Rattle.frame.proofs.Spans.{skips-written}
-use Rattle.wellformed.specs.Fields.{wide}
 use Rattle.wellformed.specs.Entries.{Entry, entryF, entriesF, notGreater, orderedFrom, ordered, QueuesIn}
-use Rattle.wellformed.proofs.FieldLaws.{wide-law}
 
 -- ---- an entry is read field by field
 
 pub entryF-law : Lawful entryF
 unfolding entryF
 entryF-law =
-    pair-law (wide-law resourceId-law 33) (pair-law (wide-law shortText-law 33) (pair-law (wide-law operationF-law 1469) (pair-law (wide-law roleF-law 34) (pair-law (wide-law (option-law stamp-law) 9)
-    (pair-law (wide-law conflictsF-law 3072) (pair-law (wide-law refusalsF-law 1024) (pair-law (wide-law bool-law 1) (wide-law (list-law shortText-law 8) 265))))))))
+    pair-law (padded-law resourceId-law 33) (pair-law (padded-law shortText-law 33) (pair-law (padded-law operationF-law 1469) (pair-law (padded-law roleF-law 34) (pair-law (padded-law (option-law stamp-law) 9)
+    (pair-law (padded-law conflictsF-law 3072) (pair-law (padded-law refusalsF-law 1024) (pair-law (padded-law bool-law 1) (padded-law (list-law shortText-law 8) 265))))))))
 
 entriesF-law : Lawful entriesF
 unfolding entriesF
-entriesF-law = wide-law (list-law entryF-law 6) 35641
+entriesF-law = padded-law (list-law entryF-law 6) 35641
 
 module _ (s : List ℕ) (p : Cursor) where
-  entry-chain : skips entryF s p ≡ skips (wide 265 (list 8 shortText)) s (skips (wide 1 bool) s (skips (wide 1024 refusalsF) s (skips (wide 3072 conflictsF) s (skips (wide 9 (option stamp)) s
-      (skips (wide 34 roleF) s (skips (wide 1469 operationF) s (skips (wide 33 shortText) s (skips (wide 33 resourceId) s p))))))))
+  entry-chain : skips entryF s p ≡ skips (in-width 265 (list 8 shortText)) s (skips (in-width 1 bool) s (skips (in-width 1024 refusalsF) s (skips (in-width 3072 conflictsF) s (skips (in-width 9 (option stamp)) s
+      (skips (in-width 34 roleF) s (skips (in-width 1469 operationF) s (skips (in-width 33 shortText) s (skips (in-width 33 resourceId) s p))))))))
   unfolding entryF
   entry-chain =
-      skips-pair (wide-law resourceId-law 33) s _ p ∙ (skips-pair (wide-law shortText-law 33) s _ _ ∙ (skips-pair (wide-law operationF-law 1469) s _ _ ∙ (skips-pair (wide-law roleF-law 34) s _ _
-      ∙ (skips-pair (wide-law (option-law stamp-law) 9) s _ _ ∙ (skips-pair (wide-law conflictsF-law 3072) s _ _ ∙ (skips-pair (wide-law refusalsF-law 1024) s _ _ ∙ skips-pair (wide-law bool-law 1) s _ _))))))
+      skips-pair (padded-law resourceId-law 33) s _ p ∙ (skips-pair (padded-law shortText-law 33) s _ _ ∙ (skips-pair (padded-law operationF-law 1469) s _ _ ∙ (skips-pair (padded-law roleF-law 34) s _ _
+      ∙ (skips-pair (padded-law (option-law stamp-law) 9) s _ _ ∙ (skips-pair (padded-law conflictsF-law 3072) s _ _ ∙ (skips-pair (padded-law refusalsF-law 1024) s _ _ ∙ skips-pair (padded-law bool-law 1) s _ _))))))
 
   pub entry-by : {q₁ q₂ q₃ q₄ q₅ q₆ q₇ q₈ q₉ : Cursor}
-      → q₁ ≡ skips (wide 33 resourceId) s p
-      → q₂ ≡ skips (wide 33 shortText) s q₁
-      → q₃ ≡ skips (wide 1469 operationF) s q₂
-      → q₄ ≡ skips (wide 34 roleF) s q₃
-      → q₅ ≡ skips (wide 9 (option stamp)) s q₄
-      → q₆ ≡ skips (wide 3072 conflictsF) s q₅
-      → q₇ ≡ skips (wide 1024 refusalsF) s q₆
-      → q₈ ≡ skips (wide 1 bool) s q₇
-      → q₉ ≡ skips (wide 265 (list 8 shortText)) s q₈
+      → q₁ ≡ skips (in-width 33 resourceId) s p
+      → q₂ ≡ skips (in-width 33 shortText) s q₁
+      → q₃ ≡ skips (in-width 1469 operationF) s q₂
+      → q₄ ≡ skips (in-width 34 roleF) s q₃
+      → q₅ ≡ skips (in-width 9 (option stamp)) s q₄
+      → q₆ ≡ skips (in-width 3072 conflictsF) s q₅
+      → q₇ ≡ skips (in-width 1024 refusalsF) s q₆
+      → q₈ ≡ skips (in-width 1 bool) s q₇
+      → q₉ ≡ skips (in-width 265 (list 8 shortText)) s q₈
       → q₉ ≡ skips entryF s p
   entry-by e₁ e₂ e₃ e₄ e₅ e₆ e₇ e₈ e₉ = cc entry-chain
 
@@ -83,15 +82,15 @@ abbrev fields-of : ResourceId × Pending → Entry
 fields-of (r, p) = (r, (p .edit .id, (p .edit .operation, (p .edit .role, (p .edit .expires-at, (p .conflicts, (p .refused, (p .collided, p .absorbed))))))))
 
 slot-of : (v : Entry) → entryF .enc v ≡ entry-slot document01 (entry-of v)
-unfolding entryF wide _⊗_ pending-slot document01
+unfolding entryF in-width padded _⊗_ pending-slot document01
 slot-of v = refl
 
 slot-back : (x : ResourceId × Pending) → entryF .enc (fields-of x) ≡ entry-slot document01 x
-unfolding entryF wide _⊗_ pending-slot document01
+unfolding entryF in-width padded _⊗_ pending-slot document01
 slot-back x = refl
 
 fits-of : (v : Entry) → entryF .Ok v → EntryFits document01 (entry-of v)
-unfolding entryF wide _⊗_ document01
+unfolding entryF in-width _⊗_ document01
 fits-of v ok = (
   ok .0 .0,
   record {
@@ -109,7 +108,7 @@ fits-of v ok = (
 )
 
 fits-back : (x : ResourceId × Pending) → EntryFits document01 x → entryF .Ok (fields-of x)
-unfolding entryF wide _⊗_ document01
+unfolding entryF in-width _⊗_ document01
 fits-back (r, p) (k, h) = (
   (k, name-within .bytes r k),
   (
@@ -183,18 +182,18 @@ no-more : (a b t : List ℕ) → b ≡ a ++ t → length a ≡ length b → b �
 no-more a b [] e h = e ∙ append-nil a
 no-more a b (x ∷ t) e h = absurd (let l : length b ≡ length a + suc (length t) = ap length e ∙ length-append a (x ∷ t) in omega arith)
 
-wide-within : {A : Type 0} (w : ℕ) (f : Format A) → Within w (wide w f)
-unfolding wide
-wide-within w f = record { bytes = λ a ok. let l = length-padded w (f .enc a) (ok .1) in omega arith }
+in-width-within : {A : Type 0} (w : ℕ) (f : Format A) → Within w (in-width w f)
+unfolding in-width padded
+in-width-within w f = record { bytes = λ a ok. let l = length-padded w (f .enc a) (ok .1) in omega arith }
 
 entry-within : Within 5940 entryF
 unfolding entryF
 entry-within =
-    pair-within (wide-within 33 resourceId) (pair-within (wide-within 33 shortText) (pair-within (wide-within 1469 operationF) (pair-within (wide-within 34 roleF) (pair-within (wide-within 9 (option stamp))
-    (pair-within (wide-within 3072 conflictsF) (pair-within (wide-within 1024 refusalsF) (pair-within (wide-within 1 bool) (wide-within 265 (list 8 shortText)))))))))
+    pair-within (in-width-within 33 resourceId) (pair-within (in-width-within 33 shortText) (pair-within (in-width-within 1469 operationF) (pair-within (in-width-within 34 roleF) (pair-within (in-width-within 9 (option stamp))
+    (pair-within (in-width-within 3072 conflictsF) (pair-within (in-width-within 1024 refusalsF) (pair-within (in-width-within 1 bool) (in-width-within 265 (list 8 shortText)))))))))
 
 pub slots-of : (b : List ℕ) (end : Cursor) → length b ≡ 35641 → end ≡ skips entriesF b start → end .ok ≡ true → Slots b
-unfolding entriesF wide list
+unfolding entriesF in-width padded list
 slots-of b end h e k =
     let g = got-some entriesF b start end e k in
     let r = entriesF-law .reads b (g .0) (g .1) in
@@ -209,7 +208,7 @@ slots-of b end h e k =
     }
 
 pub slots-read : (b : List ℕ) (end : Cursor) → Slots b → end ≡ skips entriesF b start → end .ok ≡ true
-unfolding entriesF wide list
+unfolding entriesF in-width padded list
 slots-read b end S e =
     let vs : List Entry = map fields-of (S .l) in
     let w : b ≡ entriesF .enc vs = S .bytes ∙ ap (encTable 35641) (sym (rows-back (S .l))) ∙ sym (table-of entryF 6 35641 vs) in

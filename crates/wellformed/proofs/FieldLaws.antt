@@ -1,4 +1,4 @@
--- Values in their widths are read back, and where reading one ends. Assumes nothing.
+-- Where reading a value in its width ends. Assumes nothing.
 use Prim.Native.Nat.{ℕ, _+_, _-_, _≤_, _<_}
 use native.Mathlib.Omega.{arith}
 use mathlib.Core.Path.{_≡_, refl, sym, ap, _∙_, subst}
@@ -10,14 +10,25 @@ use lib.Seq.{take-at, drop-at, length-take-le}
 use lib.Dec.{leb}
 use borrow.Author.Tests.{le-leb, lt-leb, leb-true, not-true, not-false}
 use Rattle.format.specs.Format.{Got, Format, Lawful, andThen}
-use Rattle.format.proofs.FormatLaws.{and-inv, then-inv}
+use Rattle.format.specs.Format.{padded as in-width}
+use Rattle.format.proofs.FormatLaws.{and-inv, then-inv, padded-law}
 use Rattle.spans.specs.Bytes.{zeros, allZero}
 use Rattle.tables.proofs.Laws.{allZero-is, zeros-allZero}
 use Rattle.frame.specs.Read.{stopped, stepped, gotAt, skips}
 use Rattle.frame.specs.declared.Cursor.{Cursor}
 use Rattle.frame.proofs.Steps.{rest-at}
 use Rattle.state.specs.Layout.{padded, field}
-use Rattle.wellformed.specs.Fields.{wide, ended, filled}
+use Rattle.wellformed.specs.Fields.{ended, filled}
+
+-- `in-width`, read as the code reads: the value first, and then the zeros behind it
+unfoldable wide : {A : Type 0} → ℕ → Format A → Format A
+wide w f = record {
+  Ok = λ a. f .Ok a × (length (f .enc a) ≤ w);
+  enc = field w f;
+  dec = λ s. andThen (f .dec s) (λ a t.
+      let used = length s - length t in
+      cond (leb w (length s) && (leb used w && allZero (take (w - used) t))) (some (a, drop (w - used) t)) none);
+}
 
 cond-inv : {B : Type 0} (b : Bool) (x r : B) → cond b (some x) none ≡ some r → (b ≡ true) × (x ≡ r)
 cond-inv true x r e = (refl, Option·some-injective x r e)
@@ -76,9 +87,21 @@ module _ {A : Type 0} {f : Format A} (F : Lawful f) (w : ℕ) where
       let p : s ≡ (b ++ zeros (w - length b)) ++ drop (w - u) t = k .0 ∙ ap (λ (x : List ℕ). b ++ x) y ∙ sym (append-assoc b (zeros (w - length b)) (drop (w - u) t)) in
       subst (λ (v : A × List ℕ). (s ≡ (f .enc (v .0) ++ zeros (w - length (f .enc (v .0)))) ++ v .1) × (f .Ok (v .0) × (length (f .enc (v .0)) ≤ w))) (j .1) (p, (k .1, omega arith))
 
-  pub wide-law : Lawful (wide w f)
-  unfolding wide
-  wide-law = record { writes = wide-writes; reads = wide-reads }
+  same-got : (s : List ℕ) → wide w f .dec s ≡ in-width w f .dec s
+  unfolding in-width padded
+  same-got s = go (wide w f .dec s) refl
+    where
+      no : (y : Got A) → wide w f .dec s ≡ none → in-width w f .dec s ≡ y → none ≡ y
+      no none p q = refl
+      no (some r) p q =
+          let k = padded-law F w .reads s r q in
+          absurd (Option·none-ne-some r (sym p ∙ ap (wide w f .dec) (k .0) ∙ wide-writes (r .0) (k .1) (r .1)))
+
+      go : (x : Got A) → wide w f .dec s ≡ x → x ≡ in-width w f .dec s
+      go none p = no (in-width w f .dec s) p refl
+      go (some r) p =
+          let k = wide-reads s r p in
+          sym (ap (in-width w f .dec) (k .0) ∙ padded-law F w .writes (r .0) (k .1) (r .1))
 
   -- ---- where reading ends
 
@@ -100,7 +123,7 @@ module _ {A : Type 0} {f : Format A} (F : Lawful f) (w : ℕ) where
           let d : w - (length (drop at s) - length t) ≡ at + w - (length s - length t) = omega arith in
           rw (a, b, c, d, e)
 
-  pub skips-wide : 0 < w → (s : List ℕ) (c : Cursor) → skips (wide w f) s c ≡ filled w s (c .at) (skips f s c)
+  skips-wide : 0 < w → (s : List ℕ) (c : Cursor) → skips (wide w f) s c ≡ filled w s (c .at) (skips f s c)
   unfolding skips wide filled
   skips-wide h s c = go (c .ok)
     where
@@ -134,8 +157,13 @@ module _ {A : Type 0} {f : Format A} (F : Lawful f) (w : ℕ) where
       go false = refl
 
   -- for a reader that tests the zeros behind what another reader read
-  pub wide-by : 0 < w → (s : List ℕ) (c : Cursor) {next q : Cursor} → next ≡ skips f s c → q ≡ filled w s (c .at) next → q ≡ skips (wide w f) s c
-  wide-by h s c e d = d ∙ ap (filled w s (c .at)) e ∙ sym (skips-wide h s c)
+  pub padded-by : 0 < w → (s : List ℕ) (c : Cursor) {next q : Cursor} → next ≡ skips f s c → q ≡ filled w s (c .at) next → q ≡ skips (in-width w f) s c
+  unfolding skips
+  padded-by h s c {next} e d = d ∙ ap (filled w s (c .at)) e ∙ sym (skips-wide h s c) ∙ go (c .ok)
+    where
+      go : (b : Bool) → stepped s (gotAt (wide w f) s b (c .at)) ≡ stepped s (gotAt (in-width w f) s b (c .at))
+      go true = ap (stepped s) (same-got (drop (c .at) s))
+      go false = refl
 
 -- ---- the answers of `filled`
 

@@ -4,7 +4,7 @@ use mathlib.Core.Path.{_≡_}
 use mathlib.Core.List.{List, [], _∷_}
 use mathlib.Core.Option.{Option}
 use mathlib.Core.Bool.{Bool, true, false}
-use Rattle.format.specs.Format.{Format, _⊗_, option, list, stamp, bool}
+use Rattle.format.specs.Format.{Format, _⊗_, option, list, padded, stamp, bool}
 use Rattle.spans.specs.Bytes.{both}
 use Rattle.spans.specs.Compare.{order}
 use Rattle.spans.specs.declared.Order.{Order}
@@ -18,7 +18,6 @@ use Rattle.model.specs.Limits.{document01}
 use Rattle.model.specs.Formats.{resourceId, shortText, operationF, roleF, conflictsF, refusalsF}
 use Rattle.state.specs.Layout.{edit-slots, region}
 use Rattle.state.specs.Fits.{EditsFit}
-use Rattle.wellformed.specs.Fields.{wide}
 
 -- resource, id, operation, role, expiry, conflicts, refused, collided, absorbed
 abbrev pub Entry : Type 0
@@ -26,18 +25,18 @@ Entry = ResourceId × (EditId × (Operation × (Role × (Option Timestamp × (Li
 
 unfoldable pub entryF : Format Entry
 entryF =
-    wide 33 resourceId
-    ⊗ wide 33 shortText
-    ⊗ wide 1469 operationF
-    ⊗ wide 34 roleF
-    ⊗ wide 9 (option stamp)
-    ⊗ wide 3072 conflictsF
-    ⊗ wide 1024 refusalsF
-    ⊗ wide 1 bool
-    ⊗ wide 265 (list 8 shortText)
+    padded 33 resourceId
+    ⊗ padded 33 shortText
+    ⊗ padded 1469 operationF
+    ⊗ padded 34 roleF
+    ⊗ padded 9 (option stamp)
+    ⊗ padded 3072 conflictsF
+    ⊗ padded 1024 refusalsF
+    ⊗ padded 1 bool
+    ⊗ padded 265 (list 8 shortText)
 
 unfoldable pub entriesF : Format (List Entry)
-entriesF = wide 35641 (list 6 entryF)
+entriesF = padded 35641 (list 6 entryF)
 
 abbrev pub notGreater : Order → Bool
 notGreater Less = true

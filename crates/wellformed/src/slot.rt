@@ -1,10 +1,10 @@
 // A waiting entry: the fields of its slot.
 use frame::Cursor;
 ghost use mathlib.Core.Path.{_≡_};
-ghost use Rattle.format.specs.Format.{option, list, stamp, bool};
+ghost use Rattle.format.specs.Format.{option, list, stamp, bool, padded};
 ghost use Rattle.model.specs.Formats.{resourceId, shortText, operationF, roleF, conflictsF, refusalsF};
 ghost use Rattle.frame.specs.Read.{skips};
-ghost use Rattle.wellformed.specs.Fields.{wide, filled};
+ghost use Rattle.wellformed.specs.Fields.{filled};
 ghost use Rattle.wellformed.specs.Entries.{entryF};
 
 const NAME: usize = 33;
@@ -48,7 +48,7 @@ pub fn filled(s: &[u8], at: usize, next: Cursor, width: usize) -> Cursor
 }
 
 fn resource(place: Cursor, s: &[u8]) -> Cursor
-    ensures { λ r. ⌜ r ≡ skips (wide 33 resourceId) (now (s .entry)) place ⌝ }
+    ensures { λ r. ⌜ r ≡ skips (padded 33 resourceId) (now (s .entry)) place ⌝ }
 {
     let at = place.at;
     let next = place.resource_id(s);
@@ -56,7 +56,7 @@ fn resource(place: Cursor, s: &[u8]) -> Cursor
 }
 
 fn edit_id(place: Cursor, s: &[u8]) -> Cursor
-    ensures { λ r. ⌜ r ≡ skips (wide 33 shortText) (now (s .entry)) place ⌝ }
+    ensures { λ r. ⌜ r ≡ skips (padded 33 shortText) (now (s .entry)) place ⌝ }
 {
     let at = place.at;
     let next = place.short_text(s);
@@ -64,7 +64,7 @@ fn edit_id(place: Cursor, s: &[u8]) -> Cursor
 }
 
 fn operation(place: Cursor, s: &[u8]) -> Cursor
-    ensures { λ r. ⌜ r ≡ skips (wide 1469 operationF) (now (s .entry)) place ⌝ }
+    ensures { λ r. ⌜ r ≡ skips (padded 1469 operationF) (now (s .entry)) place ⌝ }
 {
     let at = place.at;
     let read = place.operation(s);
@@ -73,7 +73,7 @@ fn operation(place: Cursor, s: &[u8]) -> Cursor
 }
 
 fn role(place: Cursor, s: &[u8]) -> Cursor
-    ensures { λ r. ⌜ r ≡ skips (wide 34 roleF) (now (s .entry)) place ⌝ }
+    ensures { λ r. ⌜ r ≡ skips (padded 34 roleF) (now (s .entry)) place ⌝ }
 {
     let at = place.at;
     let read = place.role(s);
@@ -82,7 +82,7 @@ fn role(place: Cursor, s: &[u8]) -> Cursor
 }
 
 fn expiry(place: Cursor, s: &[u8]) -> Cursor
-    ensures { λ r. ⌜ r ≡ skips (wide 9 (option stamp)) (now (s .entry)) place ⌝ }
+    ensures { λ r. ⌜ r ≡ skips (padded 9 (option stamp)) (now (s .entry)) place ⌝ }
 {
     let at = place.at;
     let read = place.expiry(s);
@@ -91,7 +91,7 @@ fn expiry(place: Cursor, s: &[u8]) -> Cursor
 }
 
 fn conflicts(place: Cursor, s: &[u8]) -> Cursor
-    ensures { λ r. ⌜ r ≡ skips (wide 3072 conflictsF) (now (s .entry)) place ⌝ }
+    ensures { λ r. ⌜ r ≡ skips (padded 3072 conflictsF) (now (s .entry)) place ⌝ }
 {
     let at = place.at;
     let next = effects::skip_conflicts(place, s);
@@ -99,7 +99,7 @@ fn conflicts(place: Cursor, s: &[u8]) -> Cursor
 }
 
 fn refused(place: Cursor, s: &[u8]) -> Cursor
-    ensures { λ r. ⌜ r ≡ skips (wide 1024 refusalsF) (now (s .entry)) place ⌝ }
+    ensures { λ r. ⌜ r ≡ skips (padded 1024 refusalsF) (now (s .entry)) place ⌝ }
 {
     let at = place.at;
     let next = effects::skip_refusals(place, s);
@@ -107,7 +107,7 @@ fn refused(place: Cursor, s: &[u8]) -> Cursor
 }
 
 fn collided(place: Cursor, s: &[u8]) -> Cursor
-    ensures { λ r. ⌜ r ≡ skips (wide 1 bool) (now (s .entry)) place ⌝ }
+    ensures { λ r. ⌜ r ≡ skips (padded 1 bool) (now (s .entry)) place ⌝ }
 {
     let at = place.at;
     let next = place.below(s, 2);
@@ -129,7 +129,7 @@ fn edit_ids(place: Cursor, s: &[u8]) -> Cursor
 }
 
 fn absorbed(place: Cursor, s: &[u8]) -> Cursor
-    ensures { λ r. ⌜ r ≡ skips (wide 265 (list 8 shortText)) (now (s .entry)) place ⌝ }
+    ensures { λ r. ⌜ r ≡ skips (padded 265 (list 8 shortText)) (now (s .entry)) place ⌝ }
 {
     let at = place.at;
     let next = edit_ids(place, s);

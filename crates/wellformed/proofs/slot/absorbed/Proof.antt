@@ -1,5 +1,5 @@
 use denote.Ref.{now}
-use Rattle.wellformed.proofs.FieldLaws.{wide-by}
+use Rattle.wellformed.proofs.FieldLaws.{padded-by}
 use Rattle.format.proofs.FormatLaws.{list-law}
 use Rattle.model.proofs.FormatsLaws.{shortText-law}
 use borrow.Author.Needs.{needs}
@@ -13,7 +13,7 @@ filled-requires : tie.Need-filled-requires
 filled-requires c κs = search needs
 
 returns : tie.Need-returns
-returns c = wide-by (list-law shortText-law 8) 265 (search needs) (now (c .before .before .before .args .s)) (c .before .before .before .args .place) (c .before .edit-ids .ensures) (c .filled .ensures)
+returns c = padded-by (list-law shortText-law 8) 265 (search needs) (now (c .before .before .before .args .s)) (c .before .before .before .args .place) (c .before .edit-ids .ensures) (c .filled .ensures)
 
 pub absorbed-spec : {M : Type 1} → statement M
 absorbed-spec = tie.close (tie.spec edit-ids-requires filled-requires returns)

@@ -1,5 +1,5 @@
 use denote.Ref.{now}
-use Rattle.wellformed.proofs.FieldLaws.{wide-by}
+use Rattle.wellformed.proofs.FieldLaws.{padded-by}
 use Rattle.format.specs.Format.{bool, boolTo, boolFrom, below}
 use Rattle.format.proofs.FormatLaws.{bool-law}
 use Rattle.frame.proofs.Steps.{skips-via}
@@ -16,7 +16,7 @@ filled-requires c κs = search needs
 
 returns : tie.Need-returns
 unfolding bool
-returns c = wide-by bool-law 1 (search needs) (now (c .before .before .before .args .s)) (c .before .before .before .args .place) (c .before .below .ensures ∙ sym (skips-via boolTo boolFrom (below 2) (now (c .before .before .before .args .s)) (c .before .before .before .args .place))) (c .filled .ensures)
+returns c = padded-by bool-law 1 (search needs) (now (c .before .before .before .args .s)) (c .before .before .before .args .place) (c .before .below .ensures ∙ sym (skips-via boolTo boolFrom (below 2) (now (c .before .before .before .args .s)) (c .before .before .before .args .place))) (c .filled .ensures)
 
 pub collided-spec : {M : Type 1} → statement M
 collided-spec = tie.close (tie.spec below-requires filled-requires returns)

@@ -1,5 +1,5 @@
 use denote.Ref.{now}
-use Rattle.wellformed.proofs.FieldLaws.{wide-by}
+use Rattle.wellformed.proofs.FieldLaws.{padded-by}
 use Rattle.model.proofs.FormatsLaws.{shortText-law}
 use borrow.Author.Needs.{needs}
 use Rattle.wellformed.proofs.slot.edit_id.Statement.{statement}
@@ -12,7 +12,7 @@ filled-requires : tie.Need-filled-requires
 filled-requires c κs = search needs
 
 returns : tie.Need-returns
-returns c = wide-by shortText-law 33 (search needs) (now (c .before .before .before .args .s)) (c .before .before .before .args .place) (c .before .short-text .ensures) (c .filled .ensures)
+returns c = padded-by shortText-law 33 (search needs) (now (c .before .before .before .args .s)) (c .before .before .before .args .place) (c .before .short-text .ensures) (c .filled .ensures)
 
 pub edit-id-spec : {M : Type 1} → statement M
 edit-id-spec = tie.close (tie.spec short-text-requires filled-requires returns)

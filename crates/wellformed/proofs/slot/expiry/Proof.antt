@@ -1,5 +1,5 @@
 use denote.Ref.{now}
-use Rattle.wellformed.proofs.FieldLaws.{wide-by}
+use Rattle.wellformed.proofs.FieldLaws.{padded-by}
 use Rattle.format.proofs.FormatLaws.{option-law, stamp-law}
 use borrow.Author.Needs.{needs}
 use Rattle.wellformed.proofs.slot.expiry.Statement.{statement}
@@ -12,7 +12,7 @@ filled-requires : tie.Need-filled-requires
 filled-requires c κs = search needs
 
 returns : tie.Need-returns
-returns c = wide-by (option-law stamp-law) 9 (search needs) (now (c .before .before .before .before .args .s)) (c .before .before .before .before .args .place) (c .before .before .expiry .ensures .place) (c .filled .ensures)
+returns c = padded-by (option-law stamp-law) 9 (search needs) (now (c .before .before .before .before .args .s)) (c .before .before .before .before .args .place) (c .before .before .expiry .ensures .place) (c .filled .ensures)
 
 pub expiry-spec : {M : Type 1} → statement M
 expiry-spec = tie.close (tie.spec expiry-requires filled-requires returns)

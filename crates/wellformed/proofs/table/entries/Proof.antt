@@ -1,5 +1,5 @@
 use denote.Ref.{now}
-use Rattle.wellformed.proofs.FieldLaws.{wide-by}
+use Rattle.wellformed.proofs.FieldLaws.{padded-by}
 use Rattle.format.proofs.FormatLaws.{list-law}
 use Rattle.wellformed.proofs.EntryLaws.{entryF-law}
 use Rattle.wellformed.specs.Entries.{entriesF}
@@ -15,7 +15,7 @@ filled-requires c κs = search needs
 
 returns : tie.Need-returns
 unfolding entriesF
-returns c = wide-by (list-law entryF-law 6) 35641 (search needs) (now (c .before .before .before .args .s)) (c .before .before .before .args .place) (c .before .slots .ensures) (c .filled .ensures)
+returns c = padded-by (list-law entryF-law 6) 35641 (search needs) (now (c .before .before .before .args .s)) (c .before .before .before .args .place) (c .before .slots .ensures) (c .filled .ensures)
 
 pub entries-spec : {M : Type 1} → statement M
 entries-spec = tie.close (tie.spec slots-requires filled-requires returns)
