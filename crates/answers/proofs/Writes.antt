@@ -17,7 +17,8 @@ use Rattle.model.specs.Maps.{if_then_else_, by-name, get, is-some, is-some-and}
 use Rattle.model.specs.Formats.{eventF, outcomeF}
 use Rattle.model.specs.Machine.{Machine, ok, _>>=_, with-state, queue-of}
 use Rattle.model.specs.Sync.{is-create, is-delete, as-collided, change-front, change-head, head-is, doubtful, doubt, observe, observe-write, finish, remap, written, deleted, read-for-edit, read-again, write-failed, on-edit-write, describe, describe-failure}
-use Rattle.frame.specs.Meaning.{eventAt, reasonAt, meantFailure, meantOutcome}
+use Rattle.frame.specs.Meaning.{eventAt, textIn, meantFailure, meantOutcome}
+use Rattle.frame.specs.declared.TextPart.{TextPart}
 use Rattle.frame.specs.declared.Outcome as outcome
 use Rattle.frame.specs.declared.Failure as failure
 use Rattle.frame.specs.declared.Outcome.the-variants as outcomes
@@ -190,9 +191,9 @@ module _ (id : RequestId) (r : ResourceId) (frame : List ℕ) {w o w′ o′ : L
   unfolding write-failed
   again-transient d = runs.is (write-failed id r Failure.Transient) (λ m. refl) d
 
-  pub rejects : (why : ℕ) → Does (finish r (some (Rejection.Provider (describe (Outcome.Failed (Failure.Rejected (reasonAt frame why))))))) w o p q w′ o′ → Does (write-failed id r (Failure.Rejected (reasonAt frame why))) w o p q w′ o′
+  pub rejects : (why : TextPart) → Does (finish r (some (Rejection.Provider (describe (Outcome.Failed (Failure.Rejected (textIn frame why))))))) w o p q w′ o′ → Does (write-failed id r (Failure.Rejected (textIn frame why))) w o p q w′ o′
   unfolding write-failed describe describe-failure
-  rejects why d = runs.is (write-failed id r (Failure.Rejected (reasonAt frame why))) (λ m. refl) d
+  rejects why d = runs.is (write-failed id r (Failure.Rejected (textIn frame why))) (λ m. refl) d
 
   pub outcome-as : {x : outcome.Outcome} (y : outcome.Outcome) → x ≡ y → Does (on-edit-write id r (meantOutcome frame y)) w o p q w′ o′ → Does (on-edit-write id r (meantOutcome frame x)) w o p q w′ o′
   outcome-as y e d = subst (λ (z : outcome.Outcome). Does (on-edit-write id r (meantOutcome frame z)) w o p q w′ o′) (sym e) d

@@ -19,7 +19,7 @@ fn entry_at(list: &[u8], i: u8) -> Cursor
     let mut c = count.next;
     let mut j: u8 = 0;
     while j < i {
-        c = c.attendee(list);
+        c = c.skip_attendee(list);
         j += 1;
     }
     c
@@ -33,7 +33,7 @@ pub fn entry_part(list: &[u8], i: u8) -> &[u8]
         return &list[..0];
     }
     let c = entry_at(list, i);
-    let e = c.attendee(list);
+    let e = c.skip_attendee(list);
     let from = c.at;
     let to = e.at;
     comparison::part(list, from, to)

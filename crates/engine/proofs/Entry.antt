@@ -24,7 +24,8 @@ use Rattle.model.proofs.Theorems.{accepted}
 use Rattle.frame.specs.declared.Input as parsed
 use Rattle.frame.specs.declared.Parsed.{Parsed}
 use Rattle.frame.specs.declared.Parsed.the-variants.{Frame, NoFrame}
-use Rattle.frame.specs.Meaning.{meantInput, meantParsed}
+use Rattle.frame.specs.Meaning.{meantInput, meantParsed, readingOf}
+use Rattle.frame.proofs.Whole.{reading-none, reading-some}
 use Rattle.effects.specs.Sent.{Sent}
 use Rattle.state.specs.Layout.{layout}
 use Rattle.state.specs.Contract.{Keeps, HasState}
@@ -143,11 +144,11 @@ module _ (s w o frame : List ℕ) where
   entered a i s′ w′ o′ l I d S = S .is (I .state) (keeps-of I) ∙ rw (← l, read-of I, ← d)
 
   -- what the frame was read as
-  pub no-input : (r : Parsed) → r ≡ NoFrame → meantParsed frame r ≡ wholeOf inputF frame → none ≡ wholeOf inputF frame
-  no-input r e h = sym (ap (meantParsed frame) e) ∙ h
+  pub no-input : (r : Parsed) → r ≡ NoFrame → meantParsed frame r ≡ readingOf (wholeOf inputF frame) → none ≡ wholeOf inputF frame
+  no-input r e h = reading-none (wholeOf inputF frame) (sym (ap (meantParsed frame) e) ∙ h)
 
-  pub some-input : (r : Parsed) (i : parsed.Input) → r ≡ Frame i → meantParsed frame r ≡ wholeOf inputF frame → some (meantInput frame i) ≡ wholeOf inputF frame
-  some-input r i e h = sym (ap (meantParsed frame) e) ∙ h
+  pub some-input : (r : Parsed) (i : parsed.Input) → r ≡ Frame i → meantParsed frame r ≡ readingOf (wholeOf inputF frame) → some (meantInput frame i) ≡ wholeOf inputF frame
+  some-input r i e h = reading-some (meantInput frame i) (wholeOf inputF frame) (sym (ap (meantParsed frame) e) ∙ h)
 
   pub input-ok : (i : Input) → some i ≡ wholeOf inputF frame → inputF .Ok i
   input-ok i d = accepted frame i .0 (sym d) .0

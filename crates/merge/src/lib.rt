@@ -28,8 +28,8 @@ fn fields_place(event: &[u8]) -> Cursor
     ensures { λ r. ⌜ r ≡ fieldsPlace (now (event .entry)) ⌝ }
 {
     let version = Cursor { at: 0, ok: true }
-        .ids(event)
-        .option_short_text(event)
+        .skip_ids(event)
+        .skip_option_short_text(event)
         .number(event, U32);
     version.next
 }
@@ -38,7 +38,7 @@ fn fields_place(event: &[u8]) -> Cursor
 fn fields_end(event: &[u8]) -> Cursor
     ensures { λ r. ⌜ r ≡ fieldsEnd (now (event .entry)) ⌝ }
 {
-    fields_place(event).fields(event)
+    fields_place(event).skip_fields(event)
 }
 
 fn before_fields(event: &[u8]) -> &[u8]
@@ -64,7 +64,7 @@ fn after_fields(event: &[u8]) -> &[u8]
 {
     let c = fields_end(event);
     let from = c.at;
-    let d = c.tag(event);
+    let d = c.skip_tag(event);
     let to = d.at;
     comparison::part(event, from, to)
 }

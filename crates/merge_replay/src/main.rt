@@ -62,17 +62,18 @@ fn answer<'a>(base: &'a [u8], ours: &'a [u8], theirs: &'a [u8], role: &'a [u8]) 
 
 // One case from its place on: base, ours, theirs, role. The place after it.
 fn one(s: &[u8], place: Cursor) -> Cursor {
-    let ours = place.fields(s);
-    let theirs = ours.fields(s);
-    let role = theirs.event(s);
-    let read = role.role(s);
-    let end = read.next;
+    let base = place.fields(s);
+    let ours = base.next.fields(s);
+    let theirs = ours.next.event(s);
+    let from = theirs.next;
+    let role = from.role(s);
+    let end = role.next;
     if end.ok {
         answer(
-            part(s, place.at, ours.at),
-            part(s, ours.at, theirs.at),
-            part(s, theirs.at, role.at),
-            part(s, role.at, end.at),
+            base.value.bytes(s),
+            ours.value.bytes(s),
+            theirs.value.bytes(s),
+            part(s, from.at, end.at),
         );
     }
     end

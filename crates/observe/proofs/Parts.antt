@@ -1,11 +1,10 @@
 -- Names and events that stand in bytes: what the functions that take them out answer. Assumes nothing.
-use Prim.Native.Nat.{ℕ, _+_, _-_, _≤_}
-use native.Mathlib.Omega.{arith}
+use Prim.Native.Nat.{ℕ}
 use mathlib.Core.Path.{_≡_, sym, ap, _∙_, subst}
 use mathlib.Core.List.{List, [], _++_, append-assoc}
 use mathlib.Core.Option.{Option, none, some, Option·some-injective, Option·none-ne-some}
 use mathlib.Core.Bool.{Bool, true}
-use lib.ListN.{length, take, drop, length-take}
+use lib.ListN.{drop}
 use Rattle.format.specs.Format.{Got, option, via, _⊗_, enum, _∣_, below}
 use Rattle.model.specs.Event.{Text, ProviderEvent}
 use Rattle.model.specs.Seam.{ResourceId, resource-of}
@@ -13,19 +12,17 @@ use Rattle.model.specs.Formats.{resourceId, eventId, shortText, u32, tag, provi
 use Rattle.model.proofs.FormatsLaws.{resourceId-law}
 use Rattle.model.specs.Sync.{observe}
 use Rattle.model.proofs.ValidParts.{event-name}
-use Rattle.frame.specs.Read.{stepped, skips, valueOf, valueAt, kept, valueIn, readAt, Means}
-use Rattle.frame.specs.Meaning.{noEvent, resourceAt, eventAt, optionEventAt}
+use Rattle.frame.specs.Read.{valueOf, valueAt, kept, valueIn, readAt, Means, Parted}
+use Rattle.frame.specs.Meaning.{noEvent, resourceAt, partIn, eventAt, optionEventAt}
 use Rattle.frame.specs.declared.Cursor.{Cursor}
+use Rattle.frame.specs.declared.Part.{Part}
 use Rattle.frame.proofs.Stood as stood
-use Rattle.frame.proofs.Spans.{span}
 use Rattle.values.specs.Parts.{meantListed}
 use Rattle.values.specs.declared.Listed.{Listed}
 use Rattle.values.specs.declared.Listed.the-variants.{Nothing, Event}
 use Rattle.records.specs.Events.{IsEvent}
-use Rattle.versions.proofs.Laws as versions
 use Rattle.machine.specs.declared.Progress.{Progress}
 use Rattle.machine.specs.Contract.{Changes}
-use Rattle.observe.proofs.Observing as observing
 
 -- ---- an event's own name
 
@@ -49,25 +46,9 @@ id-is b t n q d e k r = d ∙ q ∙ id-read e b k r
 
 -- ---- an event at a place of the frame
 
-within-frame : (s : List ℕ) (p : ℕ) → skips eventF s (record { at = p; ok = true }) .at ≤ length s
-unfolding skips
-within-frame s p = go (eventF .dec (drop p s))
-  where
-    go : (x : Got ProviderEvent) → stepped s x .at ≤ length s
-    go none = omega arith
-    go (some r) = omega arith
-
-some-bytes : (b : List ℕ) → IsEvent b → 1 ≤ length b
-some-bytes b E = let h = versions.event-room b 0 (observing.has-alone b E) in omega arith
-
-pub event-place : (s : List ℕ) (p : ℕ) (next : Cursor) → next ≡ skips eventF s (record { at = p; ok = true }) → eventF .Ok (eventAt s p)
-    → (p ≤ next .at) × (next .at ≤ length s) × (take (next .at - p) (drop p s) ≡ eventF .enc (eventAt s p))
-event-place s p next e k =
-    let u = stood.event-stands s p next e k in
-    let c : next .at ≤ length s = subst (λ (x : Cursor). x .at ≤ length s) (sym e) (within-frame s p) in
-    let h : 1 ≤ length (span s p (next .at)) = some-bytes (span s p (next .at)) (record { event = eventAt s p; ok = k; is = u .1 }) in
-    let t : length (span s p (next .at)) ≤ next .at - p = simp length-take (omega arith) in
-    (omega arith, c, u .1)
+pub event-bytes : (s : List ℕ) (p : ℕ) (next : Cursor) (part : Part) (r : List ℕ) → Parted next part eventF s (record { at = p; ok = true }) → r ≡ partIn s part → eventF .Ok (eventAt s p)
+    → r ≡ eventF .enc (eventAt s p)
+event-bytes s p next part r P e k = e ∙ (ap (partIn s) (P .is) ∙ stood.event-stands s p next (P .place) k .1)
 
 -- ---- what a read found
 

@@ -100,9 +100,9 @@ pub fn event_part(frame: &[u8], at: usize) -> &[u8]
     requires { ⌜ eventF .Ok (eventAt (now frame) at) ⌝ }
     ensures { λ r. ⌜ now r ≡ eventF .enc (eventAt (now (frame .entry)) at) ⌝ }
 {
-    let end = Cursor { at, ok: true }.event(frame);
-    let to = end.at;
-    &frame[at..to]
+    let read = Cursor { at, ok: true }.event(frame);
+    let part = read.value;
+    part.bytes(frame)
 }
 
 // observe, of the event at a place of the frame

@@ -16,7 +16,8 @@ use Rattle.model.specs.Maps.{if_then_else_, by-name, remove, get, is-some-and}
 use Rattle.model.specs.Formats.{same, resourceId, shortText, eventF, changeF}
 use Rattle.model.specs.Machine.{Machine, Run, ok, _>>=_, with-staged, stage, unstage, see}
 use Rattle.model.specs.Sync.{learn, doubtful, holds, staged-of, list-change}
-use Rattle.frame.specs.Meaning.{resourceAt, textAt, optionEventAt, meantChange}
+use Rattle.frame.specs.Meaning.{textIn, optionEventAt, meantChange}
+use Rattle.frame.specs.declared.TextPart.{TextPart}
 use Rattle.frame.specs.declared.Change as places
 use Rattle.frame.specs.declared.Change.the-variants as change
 use Rattle.state.specs.Layout.{padded}
@@ -129,14 +130,14 @@ module _ {w w₁ w₂ : List ℕ} {p q t : Progress} {v : Bool} (id : RequestId)
   remove-sure e C = removed (changing.and-then L (subst (λ (x : Bool). Changes (stage (name-of b) (if x then Staged.Unread else Staged.Removed)) w₁ q t w₂) (sym e) C))
 
 -- the parts of a valid change are valid
-pub upsert-ok : (s : List ℕ) (c : places.Change) (resource revision event : ℕ) → c ≡ change.Upsert resource revision event → changeF .Ok (meantChange s c)
-    → resourceId .Ok (resourceAt s resource) × shortText .Ok (textAt s revision) × option eventF .Ok (optionEventAt s event)
+pub upsert-ok : (s : List ℕ) (c : places.Change) (resource revision : TextPart) (event : ℕ) → c ≡ change.Upsert resource revision event → changeF .Ok (meantChange s c)
+    → resourceId .Ok (textIn s resource) × shortText .Ok (textIn s revision) × option eventF .Ok (optionEventAt s event)
 unfolding changeF via enum _∣_ _⊗_
 upsert-ok s c resource revision event e k =
     let h = subst (λ (x : places.Change). changeF .Ok (meantChange s x)) e k in
     (h .0, h .1 .0, h .1 .1)
 
-pub remove-ok : (s : List ℕ) (c : places.Change) (resource : ℕ) → c ≡ change.Remove resource → changeF .Ok (meantChange s c) → resourceId .Ok (resourceAt s resource)
+pub remove-ok : (s : List ℕ) (c : places.Change) (resource : TextPart) → c ≡ change.Remove resource → changeF .Ok (meantChange s c) → resourceId .Ok (textIn s resource)
 unfolding changeF via enum _∣_
 remove-ok s c resource e k = subst (λ (x : places.Change). changeF .Ok (meantChange s x)) e k
 

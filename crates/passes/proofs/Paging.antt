@@ -1,10 +1,11 @@
 -- The changes of a page, one after the other. Assumes nothing.
 use Prim.Native.Nat.{ℕ, zero, suc, _-_, _≤_, _<_}
 use native.Mathlib.Omega.{arith}
-use mathlib.Core.Path.{_≡_, refl, sym, subst}
+use mathlib.Core.Path.{_≡_, refl, sym, ap, subst}
 use mathlib.Core.List.{List, [], _∷_}
 use mathlib.Core.Option.{some}
 use mathlib.Core.Bool.{true}
+use lib.ListN.{length, take, drop}
 use Rattle.format.specs.Format.{All, below}
 use Rattle.model.specs.Seam.{RequestId, Change}
 use Rattle.model.specs.Limits.{max-changes}
@@ -13,10 +14,12 @@ use Rattle.model.specs.Machine.{for-each}
 use Rattle.model.specs.Sync.{list-change}
 use Rattle.model.proofs.ValidParts.{page-changes}
 use Rattle.frame.specs.Read.{readAt, Found, Means}
-use Rattle.frame.specs.Meaning.{pageAt}
+use Rattle.frame.specs.Meaning.{pageAt, meantChange}
+use Rattle.frame.specs.declared.Change as places
 use Rattle.frame.specs.declared.Cursor.{Cursor}
 use Rattle.frame.proofs.Skips.{skipN}
-use Rattle.values.proofs.Pages.{Walk, walk-start, walk-step, walk-long}
+use Rattle.values.proofs.Pages.{Walk, walk-start, walk-step, walk-long, walk-in}
+use Rattle.spans.proofs.Laws.{tail-mid}
 use Rattle.state.specs.Contract.{HasState}
 use Rattle.machine.specs.declared.Progress.{Progress}
 use Rattle.machine.specs.Contract.{Changes}
@@ -40,6 +43,25 @@ paging-start s page n id w p tag K k G = record {
   all = λ q w′ C. C;
   state = K;
 }
+
+-- the place of a change to come is in the frame
+pub paging-in : {s : List ℕ} {page : ℕ} {id : RequestId} {w₀ : List ℕ} {p₀ : Progress} {w : List ℕ} {p : Progress} {place : Cursor} {left : ℕ} → Paging s page id w₀ p₀ w p place left → 0 < left → place .at ≤ length s
+paging-in {s} {page} {place = place} {left = left} P l = go left l (P .walk)
+  where
+    go : (n : ℕ) → 0 < n → Walk s place n (P .rest) (pageAt s page .next) → place .at ≤ length s
+    go zero l W = absurd (omega arith)
+    go (suc n) l W = walk-in W
+
+-- the change is read and listed in the same rest of the frame
+module _ (s : List ℕ) (at : ℕ) (c : places.Change) where
+  rest-is : meantChange (take (length s - at) (drop at s)) c ≡ meantChange (drop at s) c
+  rest-is = ap (λ (x : List ℕ). meantChange x c) (tail-mid s at)
+
+  pub rest-ok : changeF .Ok (meantChange (drop at s) c) → changeF .Ok (meantChange (take (length s - at) (drop at s)) c)
+  rest-ok k = subst (λ (v : Change). changeF .Ok v) (sym rest-is) k
+
+  pub rest-listed : {w w′ : List ℕ} {p q : Progress} (id : RequestId) → Changes (list-change id (meantChange (take (length s - at) (drop at s)) c)) w p q w′ → Changes (list-change id (meantChange (drop at s) c)) w p q w′
+  rest-listed {w} {w′} {p} {q} id C = subst (λ (v : Change). Changes (list-change id v) w p q w′) rest-is C
 
 module _ {s : List ℕ} {page : ℕ} {id : RequestId} {w₀ : List ℕ} {p₀ : Progress} {w : List ℕ} {p : Progress} {place next : Cursor} {left : ℕ} (v : Change) (P : Paging s page id w₀ p₀ w p place left) where
   pub change-ok : 0 < left → Means next v changeF s place → changeF .Ok v

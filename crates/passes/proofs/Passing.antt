@@ -22,7 +22,8 @@ use Rattle.model.specs.Maps.{if_then_else_, by-number, insert, filter, retain}
 use Rattle.model.specs.Formats.{shortText, nextF}
 use Rattle.model.specs.Machine.{Machine, Run, refused, ok, _>>=_, within, with-state, push, tell, request, set-pass, set-cursor, set-in-flight, set-next-request, set-learned-all, with-from, with-done}
 use Rattle.model.specs.Sync.{describe, is-pass-read, is-of-pass, drop-in-flight, new-pass, start-pass, restart-pass, abandon-pass, pass-full, after-page}
-use Rattle.frame.specs.Meaning.{textAt}
+use Rattle.frame.specs.Meaning.{textIn}
+use Rattle.frame.specs.declared.TextPart.{TextPart}
 use Rattle.values.specs.Parts.{meantNext}
 use Rattle.values.specs.declared.Next as places
 use Rattle.values.specs.declared.Next.the-variants as next
@@ -150,14 +151,14 @@ module _ {w w₁ : List ℕ} {p : Progress} {v : Bool} (c : Text) (E : Edits (pa
   pub done-part : v ≡ false → Changes (after-page (Next.Done c)) w p p w₁
   done-part e = done-by (changing.if-false (λ m. ok (with-state (with-learned-all (m .state .next-request) (m .state)) m)) F e changing.no-change)
 
-module _ {w o w′ o′ : List ℕ} {p q : Progress} (s : List ℕ) (n : places.Next) (cursor : ℕ) (t : Text) (e : t ≡ textAt s cursor) where
+module _ {w o w′ o′ : List ℕ} {p q : Progress} (s : List ℕ) (n : places.Next) (cursor : TextPart) (t : Text) (e : t ≡ textIn s cursor) where
   pub after-more : n ≡ next.More cursor → Does (after-page (Next.More t)) w o p q w′ o′ → Does (after-page (meantNext s n)) w o p q w′ o′
   after-more f D = subst (λ (x : Next). Does (after-page x) w o p q w′ o′) (ap Next.More e ∙ sym (ap (meantNext s) f)) D
 
   pub after-done : n ≡ next.Done cursor → Does (after-page (Next.Done t)) w o p q w′ o′ → Does (after-page (meantNext s n)) w o p q w′ o′
   after-done f D = subst (λ (x : Next). Does (after-page x) w o p q w′ o′) (ap Next.Done e ∙ sym (ap (meantNext s) f)) D
 
-module _ (s : List ℕ) (n : places.Next) (cursor : ℕ) (t : Text) (e : t ≡ textAt s cursor) where
+module _ (s : List ℕ) (n : places.Next) (cursor : TextPart) (t : Text) (e : t ≡ textIn s cursor) where
   pub more-ok : n ≡ next.More cursor → nextF .Ok (meantNext s n) → shortText .Ok t
   unfolding nextF via enum _∣_
   more-ok f k = subst (λ (x : Text). shortText .Ok x) (sym e) (subst (λ (x : places.Next). nextF .Ok (meantNext s x)) f k)

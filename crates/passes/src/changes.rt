@@ -2,6 +2,7 @@
 use frame::Change;
 use frame::Cursor;
 use frame::MAX_CHANGES;
+use frame::TextPart;
 use machine::Progress;
 use names::Name;
 use tables::Place;
@@ -15,7 +16,7 @@ ghost use Rattle.model.specs.Maps.{by-name, get, is-some-and};
 ghost use Rattle.model.specs.Formats.{same, resourceId, shortText, eventF, changeF, nextF, pageF};
 ghost use Rattle.model.specs.Machine.{for-each, stage};
 ghost use Rattle.model.specs.Sync.{staged-of, list-change};
-ghost use Rattle.frame.specs.Meaning.{resourceAt, textAt, eventAt, optionEventAt, pageAt, meantChange};
+ghost use Rattle.frame.specs.Meaning.{textIn, eventAt, optionEventAt, pageAt, meantChange};
 ghost use Rattle.frame.specs.Read.{readAt};
 ghost use Rattle.state.specs.Contract.{HasState, Reads};
 ghost use Rattle.state.specs.Values.{name-of, Named};
@@ -81,14 +82,14 @@ fn stage_listed(
     p: Progress,
     frame: &[u8],
     name: Name,
-    revision: usize,
+    revision: TextPart,
     event: usize,
 ) -> Progress
     requires { ⌜ HasState (now work) ⌝ }
-    requires { ⌜ (Named (name .bytes)) × (shortText .Ok (textAt (now frame) revision)) × (option eventF .Ok (optionEventAt (now frame) event)) ⌝ }
-    ensures { λ r. ⌜ Changes (list-found (name-of (name .bytes)) (textAt (now (frame .entry)) revision) (optionEventAt (now (frame .entry)) event)) (now (work .entry)) p r (now (work .exit)) ⌝ }
+    requires { ⌜ (Named (name .bytes)) × (shortText .Ok (textIn (now frame) revision)) × (option eventF .Ok (optionEventAt (now frame) event)) ⌝ }
+    ensures { λ r. ⌜ Changes (list-found (name-of (name .bytes)) (textIn (now (frame .entry)) revision) (optionEventAt (now (frame .entry)) event)) (now (work .entry)) p r (now (work .exit)) ⌝ }
 {
-    if holds(work, name, frame::short_text_at(frame, revision)) {
+    if holds(work, name, revision.bytes(frame)) {
         staged::unstage(work, name);
         return p;
     }
@@ -100,15 +101,15 @@ fn list_upsert(
     p: Progress,
     frame: &[u8],
     id: u64,
-    resource: usize,
-    revision: usize,
+    resource: TextPart,
+    revision: TextPart,
     event: usize,
 ) -> Progress
     requires { ⌜ HasState (now work) ⌝ }
-    requires { ⌜ (resourceId .Ok (resourceAt (now frame) resource)) × (shortText .Ok (textAt (now frame) revision)) × (option eventF .Ok (optionEventAt (now frame) event)) ⌝ }
-    ensures { λ r. ⌜ Changes (list-change id (seam.Change.Upsert (resourceAt (now (frame .entry)) resource) (textAt (now (frame .entry)) revision) (optionEventAt (now (frame .entry)) event))) (now (work .entry)) p r (now (work .exit)) ⌝ }
+    requires { ⌜ (resourceId .Ok (textIn (now frame) resource)) × (shortText .Ok (textIn (now frame) revision)) × (option eventF .Ok (optionEventAt (now frame) event)) ⌝ }
+    ensures { λ r. ⌜ Changes (list-change id (seam.Change.Upsert (textIn (now (frame .entry)) resource) (textIn (now (frame .entry)) revision) (optionEventAt (now (frame .entry)) event))) (now (work .entry)) p r (now (work .exit)) ⌝ }
 {
-    let name = machine::name_from(frame::resource_at(frame, resource));
+    let name = machine::name_from(resource.bytes(frame));
     let doubted = machine::doubtful(work, id, name);
     let learned = machine::learn(work, p, name);
     let seen = observe::see(work, learned, name);
@@ -118,12 +119,12 @@ fn list_upsert(
     stage_listed(work, seen, frame, name, revision, event)
 }
 
-fn list_remove(work: &mut [u8], p: Progress, frame: &[u8], id: u64, resource: usize) -> Progress
+fn list_remove(work: &mut [u8], p: Progress, frame: &[u8], id: u64, resource: TextPart) -> Progress
     requires { ⌜ HasState (now work) ⌝ }
-    requires { ⌜ resourceId .Ok (resourceAt (now frame) resource) ⌝ }
-    ensures { λ r. ⌜ Changes (list-change id (seam.Change.Remove (resourceAt (now (frame .entry)) resource))) (now (work .entry)) p r (now (work .exit)) ⌝ }
+    requires { ⌜ resourceId .Ok (textIn (now frame) resource) ⌝ }
+    ensures { λ r. ⌜ Changes (list-change id (seam.Change.Remove (textIn (now (frame .entry)) resource))) (now (work .entry)) p r (now (work .exit)) ⌝ }
 {
-    let name = machine::name_from(frame::resource_at(frame, resource));
+    let name = machine::name_from(resource.bytes(frame));
     let doubted = machine::doubtful(work, id, name);
     let learned = machine::learn(work, p, name);
     if doubted {
@@ -132,6 +133,7 @@ fn list_remove(work: &mut [u8], p: Progress, frame: &[u8], id: u64, resource: us
     stage_removed(work, learned, name)
 }
 
+// A change, by its parts in the rest of the frame that it was read in.
 fn list_change(work: &mut [u8], p: Progress, frame: &[u8], id: u64, change: Change) -> Progress
     requires { ⌜ HasState (now work) ⌝ }
     requires { ⌜ changeF .Ok (meantChange (now frame) change) ⌝ }
@@ -163,10 +165,11 @@ pub fn list_changes(work: &mut [u8], p: Progress, frame: &[u8], id: u64, page: u
     let mut place = count.next;
     let mut progress = p;
     while 0 < left {
-        let read = values::read_change(place, frame);
+        let at = place.at;
+        let read = place.change(frame);
         let change = read.change;
         place = read.next;
-        progress = list_change(work, progress, frame, id, change);
+        progress = list_change(work, progress, &frame[at..], id, change);
         left -= 1;
     }
     Walked { progress, place }

@@ -46,8 +46,8 @@ fn after_page(work: &mut [u8], out: &mut [u8], p: Progress, frame: &[u8], next: 
     ensures { λ r. ⌜ Does (after-page (meantNext (now (frame .entry)) next)) (now (work .entry)) (now (out .entry)) p r (now (work .exit)) (now (out .exit)) ⌝ }
 {
     match next {
-        Next::More(cursor) => list_more(work, out, p, frame::short_text_at(frame, cursor)),
-        Next::Done(cursor) => list_done(work, p, frame::short_text_at(frame, cursor)),
+        Next::More(cursor) => list_more(work, out, p, cursor.bytes(frame)),
+        Next::Done(cursor) => list_done(work, p, cursor.bytes(frame)),
     }
 }
 

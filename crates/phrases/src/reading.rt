@@ -70,7 +70,7 @@ pub fn read(s: &[u8], at: usize, sign: u8) -> Found {
 
 fn text(s: &[u8], at: usize, sign: u8, limit: usize) -> Found {
     let place = Cursor { at, ok: true };
-    let next = place.text(s, limit);
+    let next = place.skip_text(s, limit);
     if next.ok {
         return right(sign, at, 0, limit, next.at);
     }

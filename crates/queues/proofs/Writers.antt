@@ -31,9 +31,10 @@ use Rattle.model.proofs.FormatsLaws.{fieldsF-law, eventF-law}
 use Rattle.model.proofs.ValidParts.{create-ok, update-ok}
 use Rattle.frame.specs.Read.{stepped, skips, valueOf, valueAt}
 use Rattle.frame.proofs.Stood.{fields-stand, event-stands}
-use Rattle.frame.specs.Meaning.{standsAt, textAt, fieldsAt, eventAt, meantRole, meantExpiry, meantOperation, noFields, noEvent}
+use Rattle.frame.specs.Meaning.{standsAt, textIn, fieldsAt, eventAt, meantRole, meantExpiry, meantOperation, noFields, noEvent}
 use Rattle.frame.specs.declared.Expiry.{Expiry}
 use Rattle.frame.specs.declared.Expiry.the-variants.{Never, At}
+use Rattle.frame.specs.declared.TextPart.{TextPart}
 use Rattle.frame.specs.declared.Role.{Role}
 use Rattle.frame.specs.declared.Role.the-variants.{Owner, Attendee}
 use Rattle.frame.specs.declared.Operation.{Operation}
@@ -201,10 +202,10 @@ role-owner {b} {b′} {p} {q} s {role} l k e a W =
     let x : roleF .enc (meantRole s role) ≡ 0 ∷ [] = ap (λ (y : Role). roleF .enc (meantRole s y)) e ∙ owner-bytes in
     filled 34 a (subst (λ (y : List ℕ). Wrote b b′ p q y) (sym x) W) (widths.role-within .bytes (meantRole s role) k) l
 
-pub role-attendee : {b b₁ b′ t : List ℕ} {p p₁ q : Pen} (s : List ℕ) {role : Role} (address : ℕ) → 34 ≤ length b → roleF .Ok (meantRole s role) → role ≡ Attendee address → t ≡ textAt s address → p ≡ pen 0 → Wrote b b₁ p p₁ (1 ∷ []) → Wrote b₁ b′ p₁ q (length t ∷ t)
+pub role-attendee : {b b₁ b′ t : List ℕ} {p p₁ q : Pen} (s : List ℕ) {role : Role} (address : TextPart) → 34 ≤ length b → roleF .Ok (meantRole s role) → role ≡ Attendee address → t ≡ textIn s address → p ≡ pen 0 → Wrote b b₁ p p₁ (1 ∷ []) → Wrote b₁ b′ p₁ q (length t ∷ t)
     → Filled (roleF .enc (meantRole s role)) b′ (q .at)
 role-attendee {b} {b₁} {b′} {t} {p} {p₁} {q} s {role} address l k e d a W Y =
-    let x : roleF .enc (meantRole s role) ≡ 1 ∷ (length t ∷ t) = ap (λ (y : Role). roleF .enc (meantRole s y)) e ∙ attendee-bytes (textAt s address) ∙ ap (λ (y : List ℕ). 1 ∷ (length y ∷ y)) (sym d) in
+    let x : roleF .enc (meantRole s role) ≡ 1 ∷ (length t ∷ t) = ap (λ (y : Role). roleF .enc (meantRole s y)) e ∙ attendee-bytes (textIn s address) ∙ ap (λ (y : List ℕ). 1 ∷ (length y ∷ y)) (sym d) in
     filled 34 a (subst (λ (y : List ℕ). Wrote b b′ p q y) (sym x) (wrote-then W Y)) (widths.role-within .bytes (meantRole s role) k) l
 
 never-bytes : option stamp .enc none ≡ 0 ∷ []
@@ -262,7 +263,7 @@ pub owner-yes : {role : Role} → role ≡ Owner → (s : List ℕ) → true ≡
 unfolding is-attendee
 owner-yes e s = rw e
 
-pub owner-no : {role : Role} (a : ℕ) → role ≡ Attendee a → (s : List ℕ) → false ≡ not (is-attendee (meantRole s role))
+pub owner-no : {role : Role} (a : TextPart) → role ≡ Attendee a → (s : List ℕ) → false ≡ not (is-attendee (meantRole s role))
 unfolding is-attendee
 owner-no a e s = rw e
 

@@ -174,7 +174,8 @@ fn target(work: &[u8], frame: &[u8], edit: Edit) -> Name
     ensures { λ r. ⌜ Named (r .bytes) ⌝ }
 {
     let what = edit.operation;
-    let name = machine::name_from(frame::resource_at(frame, edit.resource));
+    let resource = edit.resource;
+    let name = machine::name_from(resource.bytes(frame));
     if is_create(what) {
         return name;
     }

@@ -55,7 +55,7 @@ pub fn refused_at(src: &[u8], at: usize) -> &[u8]
 pub fn event_at(src: &[u8], at: usize) -> &[u8]
     ensures { λ r. ⌜ PartOf eventF (now (src .entry)) at (now r) ⌝ }
 {
-    let end = Cursor { at, ok: true }.event(src).at;
+    let end = Cursor { at, ok: true }.skip_event(src).at;
     part(src, at, end)
 }
 
@@ -63,7 +63,7 @@ pub fn event_at(src: &[u8], at: usize) -> &[u8]
 pub fn fields_at(src: &[u8], at: usize) -> &[u8]
     ensures { λ r. ⌜ PartOf fieldsF (now (src .entry)) at (now r) ⌝ }
 {
-    let end = Cursor { at, ok: true }.fields(src).at;
+    let end = Cursor { at, ok: true }.skip_fields(src).at;
     part(src, at, end)
 }
 
@@ -79,7 +79,7 @@ pub fn role_at(src: &[u8], at: usize) -> &[u8]
 pub fn tag_at(src: &[u8], at: usize) -> &[u8]
     ensures { λ r. ⌜ PartOf tag (now (src .entry)) at (now r) ⌝ }
 {
-    let end = Cursor { at, ok: true }.tag(src).at;
+    let end = Cursor { at, ok: true }.skip_tag(src).at;
     part(src, at, end)
 }
 
@@ -87,7 +87,7 @@ pub fn tag_at(src: &[u8], at: usize) -> &[u8]
 pub fn fields_end(src: &[u8], at: usize) -> usize
     ensures { λ r. ⌜ EndOf fieldsF (now (src .entry)) at r ⌝ }
 {
-    Cursor { at, ok: true }.fields(src).at
+    Cursor { at, ok: true }.skip_fields(src).at
 }
 
 // Where the fields of the event at `at` stand.
@@ -95,7 +95,7 @@ pub fn fields_place(src: &[u8], at: usize) -> usize
     requires { ⌜ at ≤ length (now src) ⌝ }
     ensures { λ r. ⌜ ((e : ProviderEvent) → StandsAt eventF e (now (src .entry)) at → r ≡ at + length (event-front e)) ⌝ }
 {
-    let ids = Cursor { at, ok: true }.ids(src);
-    let version = ids.option_short_text(src).number(src, U32);
+    let ids = Cursor { at, ok: true }.skip_ids(src);
+    let version = ids.skip_option_short_text(src).number(src, U32);
     version.next.at
 }

@@ -3,7 +3,7 @@ ghost use mathlib.Core.List.{[]};
 ghost use Rattle.model.specs.Calls.{Notice, Effect, Rejection};
 ghost use Rattle.model.specs.Formats.{shortText};
 ghost use Rattle.model.specs.Sync.{describe};
-ghost use Rattle.frame.specs.Meaning.{textAt, meantOutcome};
+ghost use Rattle.frame.specs.Meaning.{textIn, meantOutcome};
 ghost use Rattle.effects.specs.Told.{meantRefusal};
 ghost use Rattle.state.specs.Contract.{HasState};
 ghost use Rattle.state.specs.Values.{name-of, Named};
@@ -13,6 +13,7 @@ use crate::places::conflicts_at;
 use crate::places::refused_at;
 use effects::Refusal;
 use frame::Outcome;
+use frame::TextPart;
 use machine::Progress;
 use names::Name;
 use tables::Place;
@@ -133,21 +134,21 @@ pub fn notify(
     q
 }
 
-pub fn tell_expired(out: &mut [u8], p: Progress, frame: &[u8], id: usize) -> Progress
-    requires { ⌜ shortText .Ok (textAt (now frame) id) ⌝ }
-    ensures { λ r. ⌜ Pushes (Effect.Notify (Notice.Expired (textAt (now (frame .entry)) id))) (now (out .entry)) p r (now (out .exit)) ⌝ }
+pub fn tell_expired(out: &mut [u8], p: Progress, frame: &[u8], id: TextPart) -> Progress
+    requires { ⌜ shortText .Ok (textIn (now frame) id) ⌝ }
+    ensures { λ r. ⌜ Pushes (Effect.Notify (Notice.Expired (textIn (now (frame .entry)) id))) (now (out .entry)) p r (now (out .exit)) ⌝ }
 {
-    let edit = frame::short_text_at(frame, id);
+    let edit = id.bytes(frame);
     let pen = effects::expired(machine::pen_of(p), out, edit);
     machine::sent(p, pen)
 }
 
 // Applied, with nothing to report.
-pub fn tell_done(out: &mut [u8], p: Progress, frame: &[u8], id: usize) -> Progress
-    requires { ⌜ shortText .Ok (textAt (now frame) id) ⌝ }
-    ensures { λ r. ⌜ Pushes (Effect.Notify (Notice.Applied (textAt (now (frame .entry)) id) [] [])) (now (out .entry)) p r (now (out .exit)) ⌝ }
+pub fn tell_done(out: &mut [u8], p: Progress, frame: &[u8], id: TextPart) -> Progress
+    requires { ⌜ shortText .Ok (textIn (now frame) id) ⌝ }
+    ensures { λ r. ⌜ Pushes (Effect.Notify (Notice.Applied (textIn (now (frame .entry)) id) [] [])) (now (out .entry)) p r (now (out .exit)) ⌝ }
 {
-    let edit = frame::short_text_at(frame, id);
+    let edit = id.bytes(frame);
     let none = [0u8; 1];
     let pen = effects::applied(machine::pen_of(p), out, edit, &none, &none);
     machine::sent(p, pen)

@@ -4,7 +4,7 @@ ghost use Prim.Native.Nat.{_≤_};
 ghost use lib.ListN.{length};
 ghost use Rattle.format.specs.Format.{option, stamp};
 ghost use Rattle.model.specs.Formats.{shortText, operationF, roleF};
-ghost use Rattle.frame.specs.Meaning.{textAt, meantRole, meantExpiry, meantOperation};
+ghost use Rattle.frame.specs.Meaning.{textIn, meantRole, meantExpiry, meantOperation};
 ghost use Rattle.effects.specs.Sent.{pen};
 ghost use Rattle.queues.specs.Parts.{Filled};
 use crate::expiry::bits_of;
@@ -13,6 +13,7 @@ use crate::places::fields_at;
 use frame::Expiry;
 use frame::Operation;
 use frame::Role;
+use frame::TextPart;
 use pens::Pen;
 
 pub fn start() -> Pen
@@ -21,11 +22,11 @@ pub fn start() -> Pen
     Pen { at: 0, ok: true }
 }
 
-pub fn put_id(buf: &mut [u8], frame: &[u8], id: usize) -> usize
-    requires { ⌜ (33 ≤ length (now buf)) × (shortText .Ok (textAt (now frame) id)) ⌝ }
-    ensures { λ r. ⌜ Filled (shortText .enc (textAt (now (frame .entry)) id)) (now (buf .exit)) r ⌝ }
+pub fn put_id(buf: &mut [u8], frame: &[u8], id: TextPart) -> usize
+    requires { ⌜ (33 ≤ length (now buf)) × (shortText .Ok (textIn (now frame) id)) ⌝ }
+    ensures { λ r. ⌜ Filled (shortText .enc (textIn (now (frame .entry)) id)) (now (buf .exit)) r ⌝ }
 {
-    let text = frame::short_text_at(frame, id);
+    let text = id.bytes(frame);
     let end = start().text(buf, text);
     end.at
 }
@@ -40,7 +41,7 @@ pub fn put_role(buf: &mut [u8], frame: &[u8], role: Role) -> usize
             return end.at;
         }
         Role::Attendee(address) => {
-            let text = frame::short_text_at(frame, address);
+            let text = address.bytes(frame);
             let end = start().byte(buf, 1).text(buf, text);
             return end.at;
         }

@@ -43,7 +43,7 @@ fn list_from(s: &[u8]) -> Cursor
     if case.value == 0 {
         return body;
     }
-    body.short_text(s)
+    body.skip_short_text(s)
 }
 
 fn purpose(s: &[u8]) -> Cursor
@@ -54,7 +54,7 @@ fn purpose(s: &[u8]) -> Cursor
     if case.value == 0 {
         return body;
     }
-    body.resource_id(s)
+    body.skip_resource_id(s)
 }
 
 fn staged(s: &[u8]) -> Cursor
@@ -63,7 +63,7 @@ fn staged(s: &[u8]) -> Cursor
     let case = Cursor { at: 0, ok: true }.byte(s, 3);
     let body = case.next;
     if case.value == 0 {
-        return body.event(s);
+        return body.skip_event(s);
     }
     body
 }
@@ -75,10 +75,10 @@ fn value_end(s: &[u8], value: Value) -> Cursor
     let first = Cursor { at: 0, ok: true };
     match value {
         Value::Name => {
-            return first.resource_id(s);
+            return first.skip_resource_id(s);
         }
         Value::OptionText => {
-            return first.option_short_text(s);
+            return first.skip_option_short_text(s);
         }
         Value::ListFrom => {
             return list_from(s);
@@ -97,7 +97,7 @@ fn value_end(s: &[u8], value: Value) -> Cursor
             return time.next;
         }
         Value::Flag => {
-            return first.below(s, 2);
+            return first.skip_below(s, 2);
         }
         Value::Number => {
             let number = first.number(s, 8);

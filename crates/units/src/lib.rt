@@ -18,36 +18,36 @@ fn skip_unit(c: Cursor, s: &[u8], k: u8) -> Cursor
     ensures { λ r. ⌜ r ≡ skipUnit k (now (s .entry)) c ⌝ }
 {
     if k == 0 {
-        return c.option_short_text(s);
+        return c.skip_option_short_text(s);
     }
     if k == 1 {
-        return c.tag(s);
+        return c.skip_tag(s);
     }
     if k == 2 {
-        return c.option_tag(s);
+        return c.skip_option_tag(s);
     }
     if k == 3 {
-        return c.option_organizer(s);
+        return c.skip_option_organizer(s);
     }
     if k == 4 {
-        return c.attendees(s);
+        return c.skip_attendees(s);
     }
     if k == 5 {
-        return c.option_short_text(s);
+        return c.skip_option_short_text(s);
     }
     if k == 6 {
-        return c.option_tag(s);
+        return c.skip_option_tag(s);
     }
     if k == 7 {
-        return c.below(s, 3);
+        return c.skip_below(s, 3);
     }
     if k == 8 {
-        return c.below(s, 2);
+        return c.skip_below(s, 2);
     }
     if k == 9 {
-        return c.below(s, 4);
+        return c.skip_below(s, 4);
     }
-    c.tag(s)
+    c.skip_tag(s)
 }
 
 // The place of the k-th unit.

@@ -51,7 +51,7 @@ fn resource(place: Cursor, s: &[u8]) -> Cursor
     ensures { λ r. ⌜ r ≡ skips (padded 33 resourceId) (now (s .entry)) place ⌝ }
 {
     let at = place.at;
-    let next = place.resource_id(s);
+    let next = place.skip_resource_id(s);
     filled(s, at, next, NAME)
 }
 
@@ -59,7 +59,7 @@ fn edit_id(place: Cursor, s: &[u8]) -> Cursor
     ensures { λ r. ⌜ r ≡ skips (padded 33 shortText) (now (s .entry)) place ⌝ }
 {
     let at = place.at;
-    let next = place.short_text(s);
+    let next = place.skip_short_text(s);
     filled(s, at, next, NAME)
 }
 
@@ -110,7 +110,7 @@ fn collided(place: Cursor, s: &[u8]) -> Cursor
     ensures { λ r. ⌜ r ≡ skips (padded 1 bool) (now (s .entry)) place ⌝ }
 {
     let at = place.at;
-    let next = place.below(s, 2);
+    let next = place.skip_below(s, 2);
     filled(s, at, next, 1)
 }
 
@@ -122,7 +122,7 @@ fn edit_ids(place: Cursor, s: &[u8]) -> Cursor
     let mut c = count.next;
     let mut i: u8 = 0;
     while i < n {
-        c = c.short_text(s);
+        c = c.skip_short_text(s);
         i += 1;
     }
     c

@@ -100,7 +100,7 @@ fn ours_part(work: &[u8], at: usize) -> &[u8]
     ensures { λ r. ⌜ now r ≡ ours-part (now (work .entry)) at ⌝ }
 {
     let s = operation_part(work, at);
-    let base = Cursor { at: 0, ok: true }.fields(s);
+    let base = Cursor { at: 0, ok: true }.skip_fields(s);
     let from = base.at;
     comparison::part(s, from, 1468)
 }
@@ -191,8 +191,8 @@ fn plan_head(work: &mut [u8], name: Name, at: usize, theirs: &[u8])
 fn revision_of(event: &[u8]) -> &[u8]
     ensures { λ r. ⌜ ((t : ProviderEvent) → Begins eventF (now (event .entry)) t → now r ≡ option shortText .enc (t .revision)) ⌝ }
 {
-    let from = Cursor { at: 0, ok: true }.ids(event);
-    let to = from.option_short_text(event);
+    let from = Cursor { at: 0, ok: true }.skip_ids(event);
+    let to = from.skip_option_short_text(event);
     let start = from.at;
     let end = to.at;
     comparison::part(event, start, end)

@@ -102,7 +102,7 @@ same-length-12 : tie.Need-same-length-12
 same-length-12 c = search needs
 
 returns-6 : tie.Need-returns-6
-returns-6 c = writes.failed-as _ _ (c .before .before .before .before .before .before .before .before .before .before .before .before .before .args .frame .now) _ (c .before .before .before .before .before .before .before .before .failure .given .1) (writes.rejects _ _ (c .before .before .before .before .before .before .before .before .before .before .before .before .before .args .frame .now) _ (c .before .before .before .before .finish .ensures))
+returns-6 c = writes.failed-as _ _ (c .before .before .before .before .before .before .before .before .before .before .before .before .before .args .frame .now) _ (c .before .before .before .before .before .before .before .before .failure .given .1) (writes.rejects _ _ (c .before .before .before .before .before .before .before .before .before .before .before .before .before .args .frame .now) (c .before .before .before .before .before .before .before .before .failure .given .0 .0) (c .before .before .before .before .finish .ensures))
 
 pub write-failed-spec : {M : Type 1} → statement M
 write-failed-spec =

@@ -6,14 +6,14 @@ use Rattle.merge.proofs.after_fields.Tie as tie
 fields-end-requires : tie.Need-fields-end-requires
 fields-end-requires c κs = search needs
 
-tag-requires : tie.Need-tag-requires
-tag-requires c κs = search needs
+skip-tag-requires : tie.Need-skip-tag-requires
+skip-tag-requires c κs = search needs
 
 part-requires : tie.Need-part-requires
 part-requires c κs = search needs
 
 returns : tie.Need-returns
-returns c = laws.after-is (c .before .before .before .before .args .event .now) _ _ _ (c .before .before .fields-end .ensures) (c .before .tag .ensures) (c .part .ensures)
+returns c = laws.after-is (c .before .before .before .before .args .event .now) _ _ _ (c .before .before .fields-end .ensures) (c .before .skip-tag .ensures) (c .part .ensures)
 
 pub after-fields-spec : {M : Type 1} → statement M
-after-fields-spec = tie.close (tie.spec fields-end-requires tag-requires part-requires returns)
+after-fields-spec = tie.close (tie.spec fields-end-requires skip-tag-requires part-requires returns)

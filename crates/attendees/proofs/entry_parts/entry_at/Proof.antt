@@ -18,8 +18,8 @@ count-requires c κs = search needs
 loop-holds : tie.Need-loop-holds Inv-loop μ-loop
 loop-holds c = (search needs, laws.at-zero (c .before .before .before .args .list .now) _ (c .before .count .ensures .place))
 
-attendee-requires : tie.Need-attendee-requires Inv-loop μ-loop
-attendee-requires c κs = search needs
+skip-attendee-requires : tie.Need-skip-attendee-requires Inv-loop μ-loop
+skip-attendee-requires c κs = search needs
 
 add-j : tie.Need-add-j Inv-loop μ-loop
 add-j c = search needs
@@ -28,7 +28,7 @@ loop-less : tie.Need-loop-less Inv-loop μ-loop
 loop-less c = search needs
 
 loop-again : tie.Need-loop-again Inv-loop μ-loop
-loop-again c = (search needs, laws.at-next (c .before .before .before .before .before .before .args .list .now) (c .before .before .loop .j) _ _ (c .before .before .loop .inv .1) (c .attendee .ensures))
+loop-again c = (search needs, laws.at-next (c .before .before .before .before .before .before .args .list .now) (c .before .before .loop .j) _ _ (c .before .before .loop .inv .1) (c .skip-attendee .ensures))
 
 returns : tie.Need-returns Inv-loop μ-loop
 returns c = c .before .loop .inv .1 ∙ ap (entryAt (c .before .before .before .before .before .args .list .now)) (search needs)
@@ -41,7 +41,7 @@ entry-at-spec =
     μ-loop
     count-requires
     loop-holds
-    attendee-requires
+    skip-attendee-requires
     add-j
     loop-less
     loop-again

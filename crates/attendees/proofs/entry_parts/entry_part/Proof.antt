@@ -15,14 +15,14 @@ returns c = laws.entry-none (c .before .before .before .before .args .list .now)
 entry-at-requires : tie.Need-entry-at-requires
 entry-at-requires c κs = search needs
 
-attendee-requires : tie.Need-attendee-requires
-attendee-requires c κs = search needs
+skip-attendee-requires : tie.Need-skip-attendee-requires
+skip-attendee-requires c κs = search needs
 
 part-requires : tie.Need-part-requires
 part-requires c κs = search needs
 
 returns-2 : tie.Need-returns-2
-returns-2 c = laws.entry-some (c .before .before .before .before .before .before .args .list .now) (c .before .before .before .before .before .before .args .i) _ _ _ _ (c .before .before .before .before .entry-count .ensures) (search needs) (c .before .before .entry-at .ensures) (c .before .attendee .ensures) (c .part .ensures)
+returns-2 c = laws.entry-some (c .before .before .before .before .before .before .args .list .now) (c .before .before .before .before .before .before .args .i) _ _ _ _ (c .before .before .before .before .entry-count .ensures) (search needs) (c .before .before .entry-at .ensures) (c .before .skip-attendee .ensures) (c .part .ensures)
 
 pub entry-part-spec : {M : Type 1} → statement M
 entry-part-spec =
@@ -32,6 +32,6 @@ entry-part-spec =
     slice-aggregate-result
     returns
     entry-at-requires
-    attendee-requires
+    skip-attendee-requires
     part-requires
     returns-2)

@@ -18,11 +18,21 @@ count-requires c κs = search needs
 loop-holds : tie.Need-loop-holds Inv-loop μ-loop
 loop-holds c = (refl, paging.paging-start (c .before .before .before .before .args .frame .now) (c .before .before .before .before .args .page) _ (c .before .before .before .before .args .id) (c .before .before .before .before .args .work .now) (c .before .before .before .before .args .p) _ (c .before .before .before .before .pre .0) (c .before .before .before .before .pre .1) (c .before .count .ensures))
 
-read-change-requires : tie.Need-read-change-requires Inv-loop μ-loop
-read-change-requires c κs = search needs
+change-requires : tie.Need-change-requires Inv-loop μ-loop
+change-requires c κs = search needs
+
+sub-list-change : tie.Need-sub-list-change Inv-loop μ-loop
+sub-list-change c = paging.paging-in (c .before .before .before .before .loop .inv .1) (c .before .before .before .loop-test .taken)
+
+part-list-change-start : tie.Need-part-list-change-start Inv-loop μ-loop
+part-list-change-start c = paging.paging-in (c .before .before .before .before .loop .inv .1) (c .before .before .before .loop-test .taken)
+
+part-list-change-end : tie.Need-part-list-change-end Inv-loop μ-loop
+part-list-change-end c = search needs
 
 list-change-requires : tie.Need-list-change-requires Inv-loop μ-loop
-list-change-requires c κs = (c .before .before .before .before .loop .inv .1 .state, paging.change-ok _ (c .before .before .before .before .loop .inv .1) (c .before .before .before .loop-test .taken) (c .before .before .read-change .ensures))
+list-change-requires c κs =
+    (c .before .before .before .before .before .loop .inv .1 .state, paging.rest-ok (c .before .before .before .before .before .before .before .before .before .before .args .frame .now) (c .before .before .before .before .before .loop .place .at) (c .before .before .before .change .result .change) (paging.change-ok _ (c .before .before .before .before .before .loop .inv .1) (c .before .before .before .before .loop-test .taken) (c .before .before .before .change .ensures)))
 
 sub-left : tie.Need-sub-left Inv-loop μ-loop
 sub-left c = search needs
@@ -31,7 +41,11 @@ loop-less : tie.Need-loop-less Inv-loop μ-loop
 loop-less c = search needs
 
 loop-again : tie.Need-loop-again Inv-loop μ-loop
-loop-again c = (c .before .before .list-change .kept .0 ∙ c .before .before .before .before .before .before .before .loop .inv .0, paging.paging-turn _ (c .before .before .before .before .before .before .before .loop .inv .1) (c .before .before .before .before .before .before .loop-test .taken) (c .before .before .before .before .before .read-change .ensures) (c .before .before .list-change .ensures))
+loop-again c = (
+  c .before .before .list-change .kept .0 ∙ c .before .before .before .before .before .before .before .before .loop .inv .0,
+  paging.paging-turn _ (c .before .before .before .before .before .before .before .before .loop .inv .1) (c .before .before .before .before .before .before .before .loop-test .taken) (c .before .before .before .before .before .before .change .ensures)
+      (paging.rest-listed (c .before .before .before .before .before .before .before .before .before .before .before .before .before .args .frame .now) (c .before .before .before .before .before .before .before .before .loop .place .at) (c .before .before .before .before .before .before .change .result .change) (c .before .before .before .before .before .before .before .before .before .before .before .before .before .args .id) (c .before .before .list-change .ensures)),
+)
 
 same-length : tie.Need-same-length Inv-loop μ-loop
 same-length c = c .before .loop .inv .0
@@ -47,7 +61,10 @@ list-changes-spec =
     μ-loop
     count-requires
     loop-holds
-    read-change-requires
+    change-requires
+    sub-list-change
+    part-list-change-start
+    part-list-change-end
     list-change-requires
     sub-left
     loop-less

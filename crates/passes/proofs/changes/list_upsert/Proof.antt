@@ -8,11 +8,11 @@ use Rattle.passes.proofs.changes.list_upsert.Statement.{statement}
 use Rattle.passes.proofs.changes.list_upsert.Tie as tie
 use Rattle.observe.proofs.Observing as observing
 
-resource-at-requires : tie.Need-resource-at-requires
-resource-at-requires c κs = search needs
+bytes-requires : tie.Need-bytes-requires
+bytes-requires c κs = search needs
 
 name-from-requires : tie.Need-name-from-requires
-name-from-requires c κs = subst (λ (x : Text). resourceId .Ok x) (sym (c .resource-at .ensures)) (c .before .before .before .pre .1 .0)
+name-from-requires c κs = subst (λ (x : Text). resourceId .Ok x) (sym (c .bytes .ensures .0)) (c .before .before .before .pre .1 .0)
 
 doubtful-requires : tie.Need-doubtful-requires
 doubtful-requires c κs = (c .before .before .before .before .before .pre .0, c .before .name-from .ensures .1)
@@ -30,7 +30,7 @@ same-length : tie.Need-same-length
 same-length c = search needs
 
 returns : tie.Need-returns
-returns c = laws.upsert-doubted (c .before .before .before .before .before .before .before .before .before .before .before .before .before .before .before .before .before .before .before .args .id) (c .before .before .before .before .before .before .before .before .before .before .before .before .before .before .before .name-from .result .bytes) _ (c .before .before .before .before .before .before .before .before .before .before .before .before .before .before .before .name-from .ensures .0 ∙ c .before .before .before .before .before .before .before .before .before .before .before .before .before .before .before .before .resource-at .ensures) (c .before .before .before .before .before .before .before .before .before .before .before .before .before .doubtful .ensures) (c .before .before .before .before .before .before .before .before .before .before .before .learn .ensures) _ _ (c .before .before .before .before .before .before .before .see .ensures) (c .before .before .before .before .if1 .taken) (c .before .before .stage-unread .ensures)
+returns c = laws.upsert-doubted (c .before .before .before .before .before .before .before .before .before .before .before .before .before .before .before .before .before .before .before .args .id) (c .before .before .before .before .before .before .before .before .before .before .before .before .before .before .before .name-from .result .bytes) _ (c .before .before .before .before .before .before .before .before .before .before .before .before .before .before .before .name-from .ensures .0 ∙ c .before .before .before .before .before .before .before .before .before .before .before .before .before .before .before .before .bytes .ensures .0) (c .before .before .before .before .before .before .before .before .before .before .before .before .before .doubtful .ensures) (c .before .before .before .before .before .before .before .before .before .before .before .learn .ensures) _ _ (c .before .before .before .before .before .before .before .see .ensures) (c .before .before .before .before .if1 .taken) (c .before .before .stage-unread .ensures)
 
 stage-listed-requires : tie.Need-stage-listed-requires
 stage-listed-requires c κs = ((observing.still (c .before .before .before .before .see .ensures) (observing.still (c .before .before .before .before .before .before .before .before .learn .ensures) (c .before .before .before .before .before .before .before .before .before .before .before .before .before .before .before .before .pre .0))), (c .before .before .before .before .before .before .before .before .before .before .before .before .name-from .ensures .1, c .before .before .before .before .before .before .before .before .before .before .before .before .before .before .before .before .pre .1 .1, c .before .before .before .before .before .before .before .before .before .before .before .before .before .before .before .before .pre .1 .2))
@@ -39,13 +39,13 @@ same-length-2 : tie.Need-same-length-2
 same-length-2 c = search needs
 
 returns-2 : tie.Need-returns-2
-returns-2 c = laws.upsert-found (c .before .before .before .before .before .before .before .before .before .before .before .before .before .before .before .before .before .before .before .args .id) (c .before .before .before .before .before .before .before .before .before .before .before .before .before .before .before .name-from .result .bytes) _ (c .before .before .before .before .before .before .before .before .before .before .before .before .before .before .before .name-from .ensures .0 ∙ c .before .before .before .before .before .before .before .before .before .before .before .before .before .before .before .before .resource-at .ensures) (c .before .before .before .before .before .before .before .before .before .before .before .before .before .doubtful .ensures) (c .before .before .before .before .before .before .before .before .before .before .before .learn .ensures) _ _ (c .before .before .before .before .before .before .before .see .ensures) (c .before .before .before .before .if1 .left) (c .before .before .stage-listed .ensures)
+returns-2 c = laws.upsert-found (c .before .before .before .before .before .before .before .before .before .before .before .before .before .before .before .before .before .before .before .args .id) (c .before .before .before .before .before .before .before .before .before .before .before .before .before .before .before .name-from .result .bytes) _ (c .before .before .before .before .before .before .before .before .before .before .before .before .before .before .before .name-from .ensures .0 ∙ c .before .before .before .before .before .before .before .before .before .before .before .before .before .before .before .before .bytes .ensures .0) (c .before .before .before .before .before .before .before .before .before .before .before .before .before .doubtful .ensures) (c .before .before .before .before .before .before .before .before .before .before .before .learn .ensures) _ _ (c .before .before .before .before .before .before .before .see .ensures) (c .before .before .before .before .if1 .left) (c .before .before .stage-listed .ensures)
 
 pub list-upsert-spec : {M : Type 1} → statement M
 list-upsert-spec =
     tie.close
     (tie.spec
-    resource-at-requires
+    bytes-requires
     name-from-requires
     doubtful-requires
     learn-requires

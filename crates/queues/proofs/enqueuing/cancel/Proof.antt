@@ -1,7 +1,7 @@
 use Rattle.frame.specs.Meaning.{meantEdit}
 use Rattle.state.specs.Values.{name-of}
 use Rattle.model.specs.Sync.{with-resource}
-use Rattle.frame.specs.Meaning.{textAt}
+use Rattle.frame.specs.Meaning.{textIn}
 use Prim.Native.Nat.{_-_}
 use Rattle.queues.proofs.Folding as folding
 use Rattle.queues.proofs.Queueing as queueing
@@ -44,7 +44,7 @@ same-length-3 : tie.Need-same-length-3
 same-length-3 c = search needs
 
 returns-2 : tie.Need-returns-2
-returns-2 c = queueing.cancel-next (name-of (c .before .before .before .before .before .before .before .before .before .before .before .before .before .before .before .before .before .before .before .args .name .bytes)) (with-resource (name-of (c .before .before .before .before .before .before .before .before .before .before .before .before .before .before .before .before .before .before .before .args .name .bytes)) (meantEdit (c .before .before .before .before .before .before .before .before .before .before .before .before .before .before .before .before .before .before .before .args .frame .now) (c .before .before .before .before .before .before .before .before .before .before .before .before .before .before .before .before .before .before .before .args .edit))) (queueing.resource-is (name-of (c .before .before .before .before .before .before .before .before .before .before .before .before .before .before .before .before .before .before .before .args .name .bytes)) (meantEdit (c .before .before .before .before .before .before .before .before .before .before .before .before .before .before .before .before .before .before .before .args .frame .now) (c .before .before .before .before .before .before .before .before .before .before .before .before .before .before .before .before .before .before .before .args .edit))) (c .before .before .before .before .before .before .before .before .before .before .before .before .before .before .waiting-count .ensures) (c .before .before .before .before .before .before .before .before .before .before .before .before .before .if1 .left) (c .before .before .before .before .before .before .before .before .before .before .notify .ensures) (c .before .before .before .before .before .before .remove-entry .ensures) (textAt (c .before .before .before .before .before .before .before .before .before .before .before .before .before .before .before .before .before .before .before .args .frame .now) (c .before .before .before .before .before .before .before .before .before .before .before .before .before .before .before .before .before .before .before .args .edit .id)) (queueing.id-is (name-of (c .before .before .before .before .before .before .before .before .before .before .before .before .before .before .before .before .before .before .before .args .name .bytes)) (meantEdit (c .before .before .before .before .before .before .before .before .before .before .before .before .before .before .before .before .before .before .before .args .frame .now) (c .before .before .before .before .before .before .before .before .before .before .before .before .before .before .before .before .before .before .before .args .edit))) (c .before .before .tell-done .ensures)
+returns-2 c = queueing.cancel-next (name-of (c .before .before .before .before .before .before .before .before .before .before .before .before .before .before .before .before .before .before .before .args .name .bytes)) (with-resource (name-of (c .before .before .before .before .before .before .before .before .before .before .before .before .before .before .before .before .before .before .before .args .name .bytes)) (meantEdit (c .before .before .before .before .before .before .before .before .before .before .before .before .before .before .before .before .before .before .before .args .frame .now) (c .before .before .before .before .before .before .before .before .before .before .before .before .before .before .before .before .before .before .before .args .edit))) (queueing.resource-is (name-of (c .before .before .before .before .before .before .before .before .before .before .before .before .before .before .before .before .before .before .before .args .name .bytes)) (meantEdit (c .before .before .before .before .before .before .before .before .before .before .before .before .before .before .before .before .before .before .before .args .frame .now) (c .before .before .before .before .before .before .before .before .before .before .before .before .before .before .before .before .before .before .before .args .edit))) (c .before .before .before .before .before .before .before .before .before .before .before .before .before .before .waiting-count .ensures) (c .before .before .before .before .before .before .before .before .before .before .before .before .before .if1 .left) (c .before .before .before .before .before .before .before .before .before .before .notify .ensures) (c .before .before .before .before .before .before .remove-entry .ensures) (textIn (c .before .before .before .before .before .before .before .before .before .before .before .before .before .before .before .before .before .before .before .args .frame .now) (c .before .before .before .before .before .before .before .before .before .before .before .before .before .before .before .before .before .before .before .args .edit .id)) (queueing.id-is (name-of (c .before .before .before .before .before .before .before .before .before .before .before .before .before .before .before .before .before .before .before .args .name .bytes)) (meantEdit (c .before .before .before .before .before .before .before .before .before .before .before .before .before .before .before .before .before .before .before .args .frame .now) (c .before .before .before .before .before .before .before .before .before .before .before .before .before .before .before .before .before .before .before .args .edit))) (c .before .before .tell-done .ensures)
 
 pub cancel-spec : {M : Type 1} → statement M
 cancel-spec =

@@ -9,17 +9,17 @@ use Rattle.queues.proofs.places.fields_at.Statement.{statement}
 use Rattle.queues.proofs.places.fields_at.Tie as tie
 use Rattle.queues.proofs.places.fields_at.Reads as reads
 use Rattle.queues.proofs.places.fields_at.Lts as lts
-use Rattle.frame.proofs.Cursor.fields.Reads as fields-reads
+use Rattle.frame.proofs.Cursor.skip_fields.Reads as skip-fields-reads
 use Rattle.queues.proofs.places.part.Reads as part-reads
 
-fields-requires : tie.Need-fields-requires
-fields-requires c κs = search needs
+skip-fields-requires : tie.Need-skip-fields-requires
+skip-fields-requires c κs = search needs
 
 part-requires : tie.Need-part-requires
 part-requires c κs = search needs
 
 returns : tie.Need-returns
-returns c = parts.part-stands fieldsF-law (c .before .before .before .args .src .now) (c .before .before .before .args .at) _ _ (ap (λ (c : Cursor). c .at) (c .before .fields .ensures)) (c .part .ensures)
+returns c = parts.part-stands fieldsF-law (c .before .before .before .args .src .now) (c .before .before .before .args .at) _ _ (ap (λ (c : Cursor). c .at) (c .before .skip-fields .ensures)) (c .part .ensures)
 
 pub fields-at-spec : {M : Type 1} → statement M
-fields-at-spec = tie.close (tie.spec fields-requires part-requires returns)
+fields-at-spec = tie.close (tie.spec skip-fields-requires part-requires returns)

@@ -9,13 +9,13 @@ use Rattle.queues.proofs.places.fields_end.Statement.{statement}
 use Rattle.queues.proofs.places.fields_end.Tie as tie
 use Rattle.queues.proofs.places.fields_end.Reads as reads
 use Rattle.queues.proofs.places.fields_end.Lts as lts
-use Rattle.frame.proofs.Cursor.fields.Reads as fields-reads
+use Rattle.frame.proofs.Cursor.skip_fields.Reads as skip-fields-reads
 
-fields-requires : tie.Need-fields-requires
-fields-requires c κs = search needs
+skip-fields-requires : tie.Need-skip-fields-requires
+skip-fields-requires c κs = search needs
 
 returns : tie.Need-returns
-returns c = parts.end-stands fieldsF-law (c .before .before .args .src .now) (c .before .before .args .at) _ (ap (λ (c : Cursor). c .at) (c .fields .ensures))
+returns c = parts.end-stands fieldsF-law (c .before .before .args .src .now) (c .before .before .args .at) _ (ap (λ (c : Cursor). c .at) (c .skip-fields .ensures))
 
 pub fields-end-spec : {M : Type 1} → statement M
-fields-end-spec = tie.close (tie.spec fields-requires returns)
+fields-end-spec = tie.close (tie.spec skip-fields-requires returns)

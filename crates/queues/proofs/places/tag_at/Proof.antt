@@ -9,17 +9,17 @@ use Rattle.queues.proofs.places.tag_at.Statement.{statement}
 use Rattle.queues.proofs.places.tag_at.Tie as tie
 use Rattle.queues.proofs.places.tag_at.Reads as reads
 use Rattle.queues.proofs.places.tag_at.Lts as lts
-use Rattle.frame.proofs.Cursor.tag.Reads as tag-reads
+use Rattle.frame.proofs.Cursor.skip_tag.Reads as skip-tag-reads
 use Rattle.queues.proofs.places.part.Reads as part-reads
 
-tag-requires : tie.Need-tag-requires
-tag-requires c κs = search needs
+skip-tag-requires : tie.Need-skip-tag-requires
+skip-tag-requires c κs = search needs
 
 part-requires : tie.Need-part-requires
 part-requires c κs = search needs
 
 returns : tie.Need-returns
-returns c = parts.part-stands (number-law 8) (c .before .before .before .args .src .now) (c .before .before .before .args .at) _ _ (ap (λ (c : Cursor). c .at) (c .before .tag .ensures)) (c .part .ensures)
+returns c = parts.part-stands (number-law 8) (c .before .before .before .args .src .now) (c .before .before .before .args .at) _ _ (ap (λ (c : Cursor). c .at) (c .before .skip-tag .ensures)) (c .part .ensures)
 
 pub tag-at-spec : {M : Type 1} → statement M
-tag-at-spec = tie.close (tie.spec tag-requires part-requires returns)
+tag-at-spec = tie.close (tie.spec skip-tag-requires part-requires returns)

@@ -13,12 +13,11 @@ use Rattle.queues.proofs.telling.tell_done.Tie as tie
 use Rattle.queues.proofs.telling.tell_done.Reads as reads
 use Rattle.queues.proofs.telling.tell_done.Lts as lts
 use Rattle.effects.proofs.applied.Reads as applied-reads
-use Rattle.frame.proofs.short_text_at.Reads as short-text-at-reads
 use Rattle.machine.proofs.pen_of.Reads as pen-of-reads
 use Rattle.machine.proofs.sent.Reads as sent-reads
 
-short-text-at-requires : tie.Need-short-text-at-requires
-short-text-at-requires c κs = search needs
+bytes-requires : tie.Need-bytes-requires
+bytes-requires c κs = search needs
 
 pen-of-requires : tie.Need-pen-of-requires
 pen-of-requires c κs = search needs
@@ -30,7 +29,7 @@ slice-aggregate-applied-2 : tie.Need-slice-aggregate-applied-2
 slice-aggregate-applied-2 c = search needs
 
 applied-requires : tie.Need-applied-requires
-applied-requires c κs = writers.short-id _ _ (c .before .before .before .before .short-text-at .ensures) (c .before .before .before .before .before .before .before .pre)
+applied-requires c κs = writers.short-id _ _ (c .before .before .before .before .bytes .ensures .0) (c .before .before .before .before .before .before .before .pre)
 
 sent-requires : tie.Need-sent-requires
 sent-requires c κs = search needs
@@ -39,13 +38,13 @@ same-length : tie.Need-same-length
 same-length c = search needs
 
 returns : tie.Need-returns
-returns c = steps.sends _ (ap (λ x. Effect.Notify (Notice.Applied x [] [])) (c .before .before .before .before .before .before .before .before .short-text-at .ensures)) (steps.told (c .before .before .before .before .before .before .before .pen-of .ensures) (c .before .before .before .applied .ensures .told [] [] queueing.empty-conflicts queueing.empty-refused) (c .sent .ensures))
+returns c = steps.sends _ (ap (λ x. Effect.Notify (Notice.Applied x [] [])) (c .before .before .before .before .before .before .before .before .bytes .ensures .0)) (steps.told (c .before .before .before .before .before .before .before .pen-of .ensures) (c .before .before .before .applied .ensures .told [] [] queueing.empty-conflicts queueing.empty-refused) (c .sent .ensures))
 
 pub tell-done-spec : {M : Type 1} → statement M
 tell-done-spec =
     tie.close
     (tie.spec
-    short-text-at-requires
+    bytes-requires
     pen-of-requires
     slice-aggregate-applied
     slice-aggregate-applied-2

@@ -1,5 +1,5 @@
 use Rattle.model.specs.Formats.{roleF}
-use Rattle.frame.specs.Meaning.{textAt, meantRole}
+use Rattle.frame.specs.Meaning.{textIn, meantRole}
 use Rattle.frame.specs.declared.Role.{Role}
 use mathlib.Core.Path.{subst}
 use Prim.Native.Nat.{_-_}
@@ -10,7 +10,6 @@ use Rattle.queues.proofs.writing.put_role.Statement.{statement}
 use Rattle.queues.proofs.writing.put_role.Tie as tie
 use Rattle.queues.proofs.writing.put_role.Reads as reads
 use Rattle.queues.proofs.writing.put_role.Lts as lts
-use Rattle.frame.proofs.short_text_at.Reads as short-text-at-reads
 use Rattle.pens.proofs.Pen.byte.Reads as byte-reads
 use Rattle.pens.proofs.Pen.text.Reads as text-reads
 use Rattle.queues.proofs.writing.start.Reads as start-reads
@@ -33,8 +32,8 @@ returns c = writers.role-owner (c .before .before .before .before .before .befor
 enum-known-role : tie.Need-enum-known-role
 enum-known-role c = search needs
 
-short-text-at-requires : tie.Need-short-text-at-requires
-short-text-at-requires c κs = search needs
+bytes-requires : tie.Need-bytes-requires
+bytes-requires c κs = search needs
 
 start-requires-2 : tie.Need-start-requires-2
 start-requires-2 c κs = search needs
@@ -43,13 +42,13 @@ byte-requires-2 : tie.Need-byte-requires-2
 byte-requires-2 c κs = search needs
 
 text-requires : tie.Need-text-requires
-text-requires c κs = writers.short-id _ _ (c .before .before .before .before .before .before .short-text-at .ensures) (writers.attendee-ok (textAt (c .before .before .before .before .before .before .before .before .before .before .before .before .args .frame .now) (c .before .before .before .before .before .before .before .before .role .given .0 .0)) (subst (λ (y : Role). roleF .Ok (meantRole (c .before .before .before .before .before .before .before .before .before .before .before .before .args .frame .now) y)) (c .before .before .before .before .before .before .before .before .role .given .1) (c .before .before .before .before .before .before .before .before .before .before .before .before .pre .1)))
+text-requires c κs = writers.short-id _ _ (c .before .before .before .before .before .before .bytes .ensures .0) (writers.attendee-ok (textIn (c .before .before .before .before .before .before .before .before .before .before .before .before .args .frame .now) (c .before .before .before .before .before .before .before .before .role .given .0 .0)) (subst (λ (y : Role). roleF .Ok (meantRole (c .before .before .before .before .before .before .before .before .before .before .before .before .args .frame .now) y)) (c .before .before .before .before .before .before .before .before .role .given .1) (c .before .before .before .before .before .before .before .before .before .before .before .before .pre .1)))
 
 same-length-2 : tie.Need-same-length-2
 same-length-2 c = search needs
 
 returns-2 : tie.Need-returns-2
-returns-2 c = writers.role-attendee (c .before .before .before .before .before .before .before .before .before .before .before .before .before .before .before .args .frame .now) (c .before .before .before .before .before .before .before .before .before .before .before .role .given .0 .0) (c .before .before .before .before .before .before .before .before .before .before .before .before .before .before .before .pre .0) (c .before .before .before .before .before .before .before .before .before .before .before .before .before .before .before .pre .1) (c .before .before .before .before .before .before .before .before .before .before .before .role .given .1) (c .before .before .before .before .before .before .before .before .before .short-text-at .ensures) (c .before .before .before .before .before .before .before .before .start2 .ensures) (c .before .before .before .before .before .before .byte2 .ensures) (c .before .before .text .ensures)
+returns-2 c = writers.role-attendee (c .before .before .before .before .before .before .before .before .before .before .before .before .before .before .before .args .frame .now) (c .before .before .before .before .before .before .before .before .before .before .before .role .given .0 .0) (c .before .before .before .before .before .before .before .before .before .before .before .before .before .before .before .pre .0) (c .before .before .before .before .before .before .before .before .before .before .before .before .before .before .before .pre .1) (c .before .before .before .before .before .before .before .before .before .before .before .role .given .1) (c .before .before .before .before .before .before .before .before .before .bytes .ensures .0) (c .before .before .before .before .before .before .before .before .start2 .ensures) (c .before .before .before .before .before .before .byte2 .ensures) (c .before .before .text .ensures)
 
 pub put-role-spec : {M : Type 1} → statement M
 put-role-spec =
@@ -61,7 +60,7 @@ put-role-spec =
     same-length
     returns
     enum-known-role
-    short-text-at-requires
+    bytes-requires
     start-requires-2
     byte-requires-2
     text-requires

@@ -10,11 +10,11 @@ byte-requires c κs = search needs
 returns : tie.Need-returns
 returns c = fields.list-from-start (now (c .before .before .before .before .before .args .s)) (c .before .before .before .byte .result .next) (c .before .before .before .byte .result .value) (c .before .before .before .byte .ensures) (c .if1 .taken)
 
-short-text-requires : tie.Need-short-text-requires
-short-text-requires c κs = search needs
+skip-short-text-requires : tie.Need-skip-short-text-requires
+skip-short-text-requires c κs = search needs
 
 returns-2 : tie.Need-returns-2
-returns-2 c = fields.list-from-text (now (c .before .before .before .before .before .before .args .s)) (c .before .before .before .before .byte .result .next) (c .before .before .before .before .byte .result .value) (c .before .before .before .before .byte .ensures) (c .before .if1 .left) (c .short-text .result) (c .short-text .ensures)
+returns-2 c = fields.list-from-text (now (c .before .before .before .before .before .before .args .s)) (c .before .before .before .before .byte .result .next) (c .before .before .before .before .byte .result .value) (c .before .before .before .before .byte .ensures) (c .before .if1 .left) (c .skip-short-text .result) (c .skip-short-text .ensures)
 
 pub list-from-spec : {M : Type 1} → statement M
-list-from-spec = tie.close (tie.spec byte-requires returns short-text-requires returns-2)
+list-from-spec = tie.close (tie.spec byte-requires returns skip-short-text-requires returns-2)

@@ -9,20 +9,20 @@ use Rattle.regions.proofs.field.value_end.Tie as tie
 enum-told : tie.Need-enum-told
 enum-told c = search needs
 
-resource-id-requires : tie.Need-resource-id-requires
-resource-id-requires c κs = search needs
+skip-resource-id-requires : tie.Need-skip-resource-id-requires
+skip-resource-id-requires c κs = search needs
 
 returns : tie.Need-returns
-returns c = c .resource-id .ensures ∙ sym (ap (λ v. skipsValue v (now (c .before .before .before .before .args .s))) (c .before .enum-told .given .1))
+returns c = c .skip-resource-id .ensures ∙ sym (ap (λ v. skipsValue v (now (c .before .before .before .before .args .s))) (c .before .enum-told .given .1))
 
 enum-told-2 : tie.Need-enum-told-2
 enum-told-2 c = search needs
 
-option-short-text-requires : tie.Need-option-short-text-requires
-option-short-text-requires c κs = search needs
+skip-option-short-text-requires : tie.Need-skip-option-short-text-requires
+skip-option-short-text-requires c κs = search needs
 
 returns-2 : tie.Need-returns-2
-returns-2 c = c .option-short-text .ensures ∙ sym (ap (λ v. skipsValue v (now (c .before .before .before .before .args .s))) (c .before .enum-told2 .given .1))
+returns-2 c = c .skip-option-short-text .ensures ∙ sym (ap (λ v. skipsValue v (now (c .before .before .before .before .args .s))) (c .before .enum-told2 .given .1))
 
 enum-told-3 : tie.Need-enum-told-3
 enum-told-3 c = search needs
@@ -72,11 +72,11 @@ returns-7 c = c .before .expiry .ensures .place ∙ sym (ap (λ v. skipsValue v 
 enum-told-8 : tie.Need-enum-told-8
 enum-told-8 c = search needs
 
-below-requires : tie.Need-below-requires
-below-requires c κs = search needs
+skip-below-requires : tie.Need-skip-below-requires
+skip-below-requires c κs = search needs
 
 returns-8 : tie.Need-returns-8
-returns-8 c = fields.skips-flag (now (c .before .before .before .before .args .s)) _ (c .below .ensures) ∙ sym (ap (λ v. skipsValue v (now (c .before .before .before .before .args .s))) (c .before .enum-told8 .given .1))
+returns-8 c = fields.skips-flag (now (c .before .before .before .before .args .s)) _ (c .skip-below .ensures) ∙ sym (ap (λ v. skipsValue v (now (c .before .before .before .before .args .s))) (c .before .enum-told8 .given .1))
 
 enum-told-9 : tie.Need-enum-told-9
 enum-told-9 c = search needs
@@ -92,10 +92,10 @@ value-end-spec =
     tie.close
     (tie.spec
     enum-told
-    resource-id-requires
+    skip-resource-id-requires
     returns
     enum-told-2
-    option-short-text-requires
+    skip-option-short-text-requires
     returns-2
     enum-told-3
     list-from-requires
@@ -113,7 +113,7 @@ value-end-spec =
     expiry-requires
     returns-7
     enum-told-8
-    below-requires
+    skip-below-requires
     returns-8
     enum-told-9
     number-requires

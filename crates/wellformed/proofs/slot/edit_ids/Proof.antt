@@ -21,8 +21,8 @@ count-requires c κs = search needs
 loop-holds : tie.Need-loop-holds Inv-loop μ-loop
 loop-holds c = (search needs, rw sub-zero)
 
-short-text-requires : tie.Need-short-text-requires Inv-loop μ-loop
-short-text-requires c κs = search needs
+skip-short-text-requires : tie.Need-skip-short-text-requires Inv-loop μ-loop
+skip-short-text-requires c κs = search needs
 
 add-i : tie.Need-add-i Inv-loop μ-loop
 add-i c = search needs
@@ -35,7 +35,7 @@ loop-again c =
     let l = c .before .before .loop in
     let n = c .before .before .before .before .count .result .value in
     let s = now (c .before .before .before .before .before .before .args .s) in
-    (search needs, l .inv .1 ∙ rw (c .short-text .ensures) (skipN-step shortText s n (l .i) (l .c) (search needs)))
+    (search needs, l .inv .1 ∙ rw (c .skip-short-text .ensures) (skipN-step shortText s n (l .i) (l .c) (search needs)))
 
 returns : tie.Need-returns Inv-loop μ-loop
 returns c =
@@ -53,7 +53,7 @@ edit-ids-spec =
     μ-loop
     count-requires
     loop-holds
-    short-text-requires
+    skip-short-text-requires
     add-i
     loop-less
     loop-again
