@@ -168,18 +168,19 @@ fn row_of(p: &PendingView) -> Row {
 }
 
 fn entry_of(row: &[&[u8]]) -> Option<PendingView> {
+    let [resource, id, operation, role, expires_at, conflicts, refused, collided, absorbed] = row else { return None };
     Some(PendingView {
         edit: Edit {
-            resource: first(row[0])?,
-            id: first(row[1])?,
-            operation: first(row[2])?,
-            role: first(row[3])?,
-            expires_at: first(row[entry::EXPIRY])?,
+            resource: first(resource)?,
+            id: first(id)?,
+            operation: first(operation)?,
+            role: first(role)?,
+            expires_at: first(expires_at)?,
         },
-        conflicts: first(row[entry::CONFLICTS])?,
-        refused: first(row[entry::REFUSED])?,
-        collided: first(row[7])?,
-        absorbed: first(row[entry::ABSORBED])?,
+        conflicts: first(conflicts)?,
+        refused: first(refused)?,
+        collided: first(collided)?,
+        absorbed: first(absorbed)?,
     })
 }
 
