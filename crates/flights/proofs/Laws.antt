@@ -1,7 +1,7 @@
 -- The requests in flight: each law's premises are what the callees ensure. Assumes nothing.
 use Prim.Native.Nat.{ℕ, zero, suc, _+_, _-_, _*_, _^_, _≤_, _<_}
 use native.Mathlib.Omega.{arith}
-use mathlib.Core.Path.{_≡_, refl, sym, ap, ap₂, _∙_}
+use mathlib.Core.Path.{_≡_, refl, sym, ap, ap₂, _∙_, subst}
 use mathlib.Core.List.{List, [], _∷_}
 use mathlib.Core.Option.{none, some}
 use mathlib.Core.Bool.{Bool, true, false, not, _||_, or-false}
@@ -28,14 +28,14 @@ use Rattle.model.proofs.Fitting.{any-same}
 use Rattle.state.specs.Layout.{padded, field, name-slot, number-key, flight-slot}
 use Rattle.state.specs.Setters.{with-in-flight}
 use Rattle.state.specs.Contract.{state-length, Keeps, HasState, Reads, Edits}
-use Rattle.state.specs.Values.{name-of, Named, purpose-of}
+use Rattle.state.specs.Values.{name-of, Named, purpose-of, kind-byte}
 use Rattle.state.specs.declared.Kind.{Kind}
 use Rattle.state.specs.declared.Kind.the-variants as kind
 use Rattle.state.proofs.Padded.{length-name, text-number-only}
 use Rattle.state.proofs.Columns as columns
 use Rattle.state.proofs.Ops as ops
 use Rattle.state.proofs.Bridge as bridge
-use Rattle.flights.specs.Asked.{kind-from, purpose-in}
+use Rattle.flights.specs.Asked.{purpose-in}
 
 -- ---- the bytes of a purpose
 
@@ -66,6 +66,29 @@ name-bytes (Purpose.EditRead r) = ap (drop 1) (sym (ops.named-purpose 2 r))
 name-bytes (Purpose.EditWrite r) = ap (drop 1) (sym (ops.named-purpose 3 r))
 name-bytes (Purpose.Refresh r) = ap (drop 1) (sym (ops.named-purpose 4 r))
 
+-- the kind of a byte
+abbrev kind-from : ℕ → Kind
+kind-from zero = kind.List
+kind-from (suc zero) = kind.PassRead
+kind-from (suc (suc zero)) = kind.EditRead
+kind-from (suc (suc (suc zero))) = kind.EditWrite
+kind-from (suc (suc (suc (suc n)))) = kind.Refresh
+
+from-byte : (k : Kind) → kind-from (kind-byte k) ≡ k
+from-byte kind.List = refl
+from-byte kind.PassRead = refl
+from-byte kind.EditRead = refl
+from-byte kind.EditWrite = refl
+from-byte kind.Refresh = refl
+
+five-kinds : (p : Purpose) → getD (field 34 purposeF p) 0 0 ≤ 4
+unfolding purposeF via enum _∣_ nothing padded
+five-kinds Purpose.List = omega arith
+five-kinds (Purpose.PassRead r) = omega arith
+five-kinds (Purpose.EditRead r) = omega arith
+five-kinds (Purpose.EditWrite r) = omega arith
+five-kinds (Purpose.Refresh r) = omega arith
+
 whole : (p : Purpose) → purpose-of (kind-from (getD (field 34 purposeF p) 0 0)) (name-in p) ≡ p
 unfolding name-in purposeF via enum _∣_ nothing padded
 whole Purpose.List = refl
@@ -90,17 +113,19 @@ name-is w q p e ok h d =
     ∙ take-all 33 (name-slot (name-in (e .1))) (omega (arith, length-name (name-in (e .1)) (name-ok (e .1) (ok .1))))
 
 -- what stands there, read
-asked : (w q : List ℕ) (p : ℕ) (k : Kind) (e : RequestId × Purpose) → Fit e → take 43 (drop p w) ≡ flight-slot e → k ≡ kind-from (getD w (p + 9) 0) → q ≡ take 33 (drop (p + 9 + 1) w)
+asked : (w q : List ℕ) (p : ℕ) (k : Kind) (e : RequestId × Purpose) → Fit e → take 43 (drop p w) ≡ flight-slot e → (getD w (p + 9) 0 ≤ 4 → kind-byte k ≡ getD w (p + 9) 0) → q ≡ take 33 (drop (p + 9 + 1) w)
     → (purpose-of k (name-of q) ≡ e .1) × Named q
 asked w q p k e ok h d f =
     let n = ops.slot-named q (name-in (e .1)) (name-ok (e .1) (ok .1)) (name-is w q p e ok h f) in
-    (ap₂ purpose-of (d ∙ ap kind-from (first-is w p e h)) (n .0) ∙ whole (e .1), n .1)
+    let b = first-is w p e h in
+    let l : getD w (p + 9) 0 ≤ 4 = subst (λ (x : ℕ). x ≤ 4) (sym b) (five-kinds (e .1)) in
+    (ap₂ purpose-of (sym (from-byte k) ∙ ap kind-from (d l ∙ b)) (n .0) ∙ whole (e .1), n .1)
 
 -- ---- by number
 
 pub found : (key w q : List ℕ) (n p : ℕ) (k : Kind) → n < 2 ^ 64 → key ≡ number-key n → HasState w
     → ((t : Table) → Sized 43 t → part 55643 1033 w ≡ encTable 1033 t → Found p ≡ place 43 key t 1)
-    → k ≡ kind-from (getD w (55643 + p + 9) 0) → q ≡ take 33 (drop (55643 + p + 9 + 1) w)
+    → (getD w (55643 + p + 9) 0 ≤ 4 → kind-byte k ≡ getD w (55643 + p + 9) 0) → q ≡ take 33 (drop (55643 + p + 9 + 1) w)
     → Reads (λ s. get by-number n (s .in-flight)) w (purpose-in true k q) × Named q
 unfolding number
 found key w q n p k l d K g a b = (
@@ -246,9 +271,9 @@ about-last r w a b c d A x B y C z D = record {
       ∙ ap (λ (d : Bool). d || Asks Purpose.Refresh r s) (sym (C .is s h) ∙ z));
 }
 
-pub kind-last : (n : ℕ) → (n ≡ 0 → ⊥) → (n ≡ 1 → ⊥) → (n ≡ 2 → ⊥) → (n ≡ 3 → ⊥) → kind.Refresh ≡ kind-from n
-kind-last zero a b c d = absurd (a refl)
-kind-last (suc zero) a b c d = absurd (b refl)
-kind-last (suc (suc zero)) a b c d = absurd (c refl)
-kind-last (suc (suc (suc zero))) a b c d = absurd (d refl)
-kind-last (suc (suc (suc (suc n)))) a b c d = refl
+pub kind-last : (n : ℕ) → (n ≡ 0 → ⊥) → (n ≡ 1 → ⊥) → (n ≡ 2 → ⊥) → (n ≡ 3 → ⊥) → n ≤ 4 → kind-byte kind.Refresh ≡ n
+kind-last zero a b c d l = absurd (a refl)
+kind-last (suc zero) a b c d l = absurd (b refl)
+kind-last (suc (suc zero)) a b c d l = absurd (c refl)
+kind-last (suc (suc (suc zero))) a b c d l = absurd (d refl)
+kind-last (suc (suc (suc (suc n)))) a b c d l = omega arith

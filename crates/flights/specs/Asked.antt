@@ -1,5 +1,5 @@
 -- Requests in flight by value, and a list of names by value. Assumes nothing.
-use Prim.Native.Nat.{ℕ, zero, suc, _≤_}
+use Prim.Native.Nat.{ℕ, _≤_}
 use mathlib.Core.Path.{_≡_}
 use mathlib.Core.List.{List as Vec}
 use mathlib.Core.Option.{Option, none, some}
@@ -16,15 +16,6 @@ use Rattle.state.specs.Layout.{padded, name-slot}
 use Rattle.state.specs.Contract.{Keeps}
 use Rattle.state.specs.Values.{name-of, purpose-of}
 use Rattle.state.specs.declared.Kind.{Kind}
-use Rattle.state.specs.declared.Kind.the-variants as kind
-
--- the kind of a byte
-abbrev pub kind-from : ℕ → Kind
-kind-from zero = kind.List
-kind-from (suc zero) = kind.PassRead
-kind-from (suc (suc zero)) = kind.EditRead
-kind-from (suc (suc (suc zero))) = kind.EditWrite
-kind-from (suc (suc (suc (suc n)))) = kind.Refresh
 
 -- a kind and a name, if they were found
 abbrev pub purpose-in : Bool → Kind → Vec ℕ → Option Purpose

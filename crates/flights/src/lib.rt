@@ -13,9 +13,9 @@ ghost use Rattle.model.specs.Sync.{is-pass-read, is-of-pass, asks-about};
 ghost use Rattle.state.specs.Layout.{name-slot};
 ghost use Rattle.state.specs.Setters.{with-in-flight};
 ghost use Rattle.state.specs.Contract.{HasState, Reads, Edits};
-ghost use Rattle.state.specs.Values.{name-of, Named};
+ghost use Rattle.state.specs.Values.{name-of, Named, kind-byte};
 ghost use mathlib.Core.List.{List as Vec, []};
-ghost use Rattle.flights.specs.Asked.{kind-from, purpose-in, Listed, Lists, lost, Noted};
+ghost use Rattle.flights.specs.Asked.{purpose-in, Listed, Lists, lost, Noted};
 
 // What a request is for. The name of a listing is empty.
 pub struct Asking {
@@ -42,8 +42,9 @@ const IN_FLIGHT_SIZE: usize = 1033;
 
 const IN_FLIGHT_SLOT: usize = 43;
 
+// The kind whose byte this is.
 fn kind_of(first: u8) -> Kind
-    ensures { λ r. ⌜ r ≡ kind-from first ⌝ }
+    ensures { λ r. ⌜ (first ≤ 4 → kind-byte r ≡ first) ⌝ }
 {
     if first == 0 {
         return Kind::List;
@@ -63,7 +64,7 @@ fn kind_of(first: u8) -> Kind
 // The purpose whose bytes stand at `at`.
 fn asking_at(work: &[u8], at: usize) -> Asking
     requires { ⌜ at + 34 ≤ length (now work) ⌝ }
-    ensures { λ r. ⌜ (r .kind ≡ kind-from (getD (now (work .entry)) at 0)) × (r .name .bytes ≡ take 33 (drop (at + 1) (now (work .entry)))) ⌝ }
+    ensures { λ r. ⌜ (getD (now (work .entry)) at 0 ≤ 4 → kind-byte (r .kind) ≡ getD (now (work .entry)) at 0) × (r .name .bytes ≡ take 33 (drop (at + 1) (now (work .entry)))) ⌝ }
 {
     let first = work[at];
     let kind = kind_of(first);

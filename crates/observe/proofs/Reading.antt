@@ -27,7 +27,7 @@ use Rattle.state.proofs.Padded.{text-name-only}
 use Rattle.state.proofs.Columns as columns
 use Rattle.state.proofs.Bridge as bridge
 use Rattle.state.proofs.Ops as ops
-use Rattle.staged.specs.Staging.{staged-of, may-stage, with-stage, staged-at, kind-of}
+use Rattle.staged.specs.Staging.{staged-of, may-stage, with-stage, staged-at, meantKind, KindAt}
 use Rattle.staged.specs.declared.StagedKind.{StagedKind}
 use Rattle.staged.specs.declared.StagedKind.the-variants as kind
 use Rattle.staged.proofs.Laws as staged
@@ -117,11 +117,11 @@ unread-kind kind.Present = false
 unread-kind kind.Unread = true
 unread-kind kind.Removed = false
 
-kind-unread : (v : Staged) → unread-kind (kind-of v) ≡ is-unread v
+kind-unread : (k : StagedKind) (v : Staged) → meantKind k v → is-unread v ≡ unread-kind k
 unfolding unread-kind is-unread
-kind-unread (Staged.Present e) = refl
-kind-unread Staged.Unread = refl
-kind-unread Staged.Removed = refl
+kind-unread kind.Present v e = ap is-unread (e .1)
+kind-unread kind.Unread v e = ap is-unread e
+kind-unread kind.Removed v e = ap is-unread e
 
 staged-below : (w : List ℕ) (i : ℕ) (s : SyncState) → Keeps s w → i < getD w 9221 0 → i < length (staged-of s)
 staged-below w i s h l = let c = columns.counted staged.staged-column s w h in omega arith
@@ -135,15 +135,15 @@ same-names w b i n l N z = record {
   is = λ s h. subst (λ (x : List Text). Listed x n b) (sym (more i s false (staged-below w i s h l) (z s h) ∙ append-nil (unread-of i s))) (N .is s h);
 }
 
-kind-is : (w : List ℕ) (i : ℕ) (k : StagedKind) (v : Bool) → Reads (λ s. kind-of (staged-at i s .1)) w k → unread-kind k ≡ v → (s : SyncState) → Keeps s w → is-unread (staged-at i s .1) ≡ v
-kind-is w i k v R z s h = sym (kind-unread (staged-at i s .1)) ∙ ap unread-kind (sym (R .is s h)) ∙ z
+kind-is : (w : List ℕ) (i : ℕ) (k : StagedKind) (v : Bool) → KindAt i w k → unread-kind k ≡ v → (s : SyncState) → Keeps s w → is-unread (staged-at i s .1) ≡ v
+kind-is w i k v R z s h = kind-unread k (staged-at i s .1) (R .is s h) ∙ z
 
-pub noted-present : (w b : List ℕ) (i n : ℕ) (k : StagedKind) → i < getD w 9221 0 → Noted i n w b → Reads (λ s. kind-of (staged-at i s .1)) w k → k ≡ kind.Present → Noted (i + 1) n w b
+pub noted-present : (w b : List ℕ) (i n : ℕ) (k : StagedKind) → i < getD w 9221 0 → Noted i n w b → KindAt i w k → k ≡ kind.Present → Noted (i + 1) n w b
 unfolding unread-kind
 noted-present w b i n k l N R z =
     same-names w b i n l N (λ s h. ap (λ (x : Bool). x && not (any (pass-reads (staged-at i s .0)) (values (s .in-flight)))) (kind-is w i k false R (ap unread-kind z) s h))
 
-pub noted-removed : (w b : List ℕ) (i n : ℕ) (k : StagedKind) → i < getD w 9221 0 → Noted i n w b → Reads (λ s. kind-of (staged-at i s .1)) w k → k ≡ kind.Removed → Noted (i + 1) n w b
+pub noted-removed : (w b : List ℕ) (i n : ℕ) (k : StagedKind) → i < getD w 9221 0 → Noted i n w b → KindAt i w k → k ≡ kind.Removed → Noted (i + 1) n w b
 unfolding unread-kind
 noted-removed w b i n k l N R z =
     same-names w b i n l N (λ s h. ap (λ (x : Bool). x && not (any (pass-reads (staged-at i s .0)) (values (s .in-flight)))) (kind-is w i k false R (ap unread-kind z) s h))
@@ -156,16 +156,16 @@ asks-is w q i a N A s h =
     sym (A .is s h ∙ any-same (same purposeF (Purpose.PassRead (name-of q))) (pass-reads (name-of q)) (bridge.pass-reads-is (name-of q)) (values (s .in-flight))
     ∙ ap (λ (x : Text). any (pass-reads x) (values (s .in-flight))) n)
 
-read-is : (w q : List ℕ) (i : ℕ) (k : StagedKind) (a : Bool) → Reads (λ s. kind-of (staged-at i s .1)) w k → k ≡ kind.Unread → Reads (λ s. name-slot (staged-at i s .0)) w q
+read-is : (w q : List ℕ) (i : ℕ) (k : StagedKind) (a : Bool) → KindAt i w k → k ≡ kind.Unread → Reads (λ s. name-slot (staged-at i s .0)) w q
     → Reads (λ s. any (same purposeF (Purpose.PassRead (name-of q))) (values (s .in-flight))) w a → (s : SyncState) → Keeps s w → to-read s (staged-at i s) ≡ not a
 unfolding unread-kind
 read-is w q i k a R z N A s h = ap₂ (λ (x y : Bool). x && not y) (kind-is w i k true R (ap unread-kind z) s h) (asks-is w q i a N A s h)
 
-pub noted-asked : (w b q : List ℕ) (i n : ℕ) (k : StagedKind) (a : Bool) → i < getD w 9221 0 → Noted i n w b → Reads (λ s. kind-of (staged-at i s .1)) w k → k ≡ kind.Unread → Reads (λ s. name-slot (staged-at i s .0)) w q
+pub noted-asked : (w b q : List ℕ) (i n : ℕ) (k : StagedKind) (a : Bool) → i < getD w 9221 0 → Noted i n w b → KindAt i w k → k ≡ kind.Unread → Reads (λ s. name-slot (staged-at i s .0)) w q
     → Reads (λ s. any (same purposeF (Purpose.PassRead (name-of q))) (values (s .in-flight))) w a → a ≡ true → Noted (i + 1) n w b
 noted-asked w b q i n k a l N R z M A y = same-names w b i n l N (λ s h. read-is w q i k a R z M A s h ∙ ap not y)
 
-pub noted-one : (w b b′ q : List ℕ) (i n : ℕ) (k : StagedKind) (a : Bool) → HasState w → i < getD w 9221 0 → Noted i n w b → Reads (λ s. kind-of (staged-at i s .1)) w k → k ≡ kind.Unread
+pub noted-one : (w b b′ q : List ℕ) (i n : ℕ) (k : StagedKind) (a : Bool) → HasState w → i < getD w 9221 0 → Noted i n w b → KindAt i w k → k ≡ kind.Unread
     → Reads (λ s. name-slot (staged-at i s .0)) w q → Reads (λ s. any (same purposeF (Purpose.PassRead (name-of q))) (values (s .in-flight))) w a → a ≡ false → length b′ ≡ length b
     → b′ ≡ take (n * 33) b ++ (q ++ drop (n * 33 + length q) b) → Noted (i + 1) (n + 1) w b′
 unfolding last-of

@@ -1,5 +1,5 @@
 -- The cursor and the header of the open pass: each law's premises are what the callees ensure. Assumes nothing.
-use Prim.Native.Nat.{ℕ, zero, suc, _+_, _-_, _≤_}
+use Prim.Native.Nat.{ℕ, suc, _+_, _-_, _≤_}
 use native.Mathlib.Omega.{arith}
 use mathlib.Core.Path.{_≡_, refl, sym, ap, ap₂, _∙_, subst}
 use mathlib.Core.List.{List, [], _∷_, _++_, append-assoc, append-nil}
@@ -29,7 +29,7 @@ use Rattle.state.proofs.Parts as parts
 use Rattle.state.proofs.Fresh.{no-pass-fits}
 use Rattle.pass_tables.proofs.Laws as pass
 use Rattle.pass_header.proofs.Regions as regions
-use Rattle.pass_header.specs.From.{kind-of, kind-from, text-of, from-in}
+use Rattle.pass_header.specs.From.{text-of, from-in, FromAs}
 use Rattle.pass_header.specs.declared.FromKind.{FromKind}
 use Rattle.pass_header.specs.declared.FromKind.the-variants as from
 
@@ -179,19 +179,34 @@ done-set t q w w′ ok z e p = record {
       (subst (Keeps (with-pass (some (with-done (some t) (o .pass))) s)) (sym (put-in 19968 q w w′ l p ∙ ap (λ (x : List ℕ). placed 19968 34 x w) e)) (parts.done-put s w (o .pass) (some t) (o .is) h ok));
 }
 
-pub kind-last : (n : ℕ) → (n ≡ 0 → ⊥) → (n ≡ 1 → ⊥) → from.Continue ≡ kind-from n
-kind-last zero a b = absurd (a refl)
-kind-last (suc zero) a b = absurd (b refl)
-kind-last (suc (suc n)) a b = refl
+-- the case of a byte
 
-from-first : (x : ListFrom) → kind-from (getD (field 34 listFromF x) 0 0) ≡ kind-of x
+pub kind-start : (n : ℕ) → n ≡ 0 → (x : ListFrom) → n ≡ getD (listFromF .enc x) 0 0 → from-in from.Start (text-of x) ≡ x
+unfolding listFromF via enum _∣_ nothing
+kind-start n z ListFrom.Start e = refl
+kind-start n z (ListFrom.Since c) e = absurd (omega arith)
+kind-start n z (ListFrom.Continue c) e = absurd (omega arith)
+
+pub kind-since : (n : ℕ) → n ≡ 1 → (x : ListFrom) → n ≡ getD (listFromF .enc x) 0 0 → from-in from.Since (text-of x) ≡ x
+unfolding listFromF via enum _∣_ nothing
+kind-since n z ListFrom.Start e = absurd (omega arith)
+kind-since n z (ListFrom.Since c) e = refl
+kind-since n z (ListFrom.Continue c) e = absurd (omega arith)
+
+pub kind-continue : (n : ℕ) → (n ≡ 0 → ⊥) → (n ≡ 1 → ⊥) → (x : ListFrom) → n ≡ getD (listFromF .enc x) 0 0 → from-in from.Continue (text-of x) ≡ x
+unfolding listFromF via enum _∣_ nothing
+kind-continue n y z ListFrom.Start e = absurd (y e)
+kind-continue n y z (ListFrom.Since c) e = absurd (z e)
+kind-continue n y z (ListFrom.Continue c) e = refl
+
+from-first : (x : ListFrom) → getD (field 34 listFromF x) 0 0 ≡ getD (listFromF .enc x) 0 0
 unfolding listFromF via enum _∣_ nothing padded
 from-first ListFrom.Start = refl
 from-first (ListFrom.Since c) = refl
 from-first (ListFrom.Continue c) = refl
 
-pub from-kind : (w : List ℕ) (r : FromKind) → r ≡ kind-from (getD w 9187 0) → Reads (λ s. kind-of (pass-of (s .pass) .from)) w r
-from-kind w r e = record { is = λ s h. e ∙ ap kind-from (first-in w _ 9187 (parts.from-part s w h)) ∙ from-first (pass-of (s .pass) .from) }
+pub from-kind : (w : List ℕ) (r : FromKind) → ((x : ListFrom) → getD w 9187 0 ≡ getD (listFromF .enc x) 0 0 → from-in r (text-of x) ≡ x) → FromAs w r
+from-kind w r g = record { is = λ s h. g (pass-of (s .pass) .from) (first-in w _ 9187 (parts.from-part s w h) ∙ from-first (pass-of (s .pass) .from)) }
 
 from-text-in : (w : List ℕ) (x : ListFrom) → listFromF .Ok x → take 34 (drop 9187 w) ≡ field 34 listFromF x
     → (take (getD w (9187 + 1) 0) (drop (9187 + 2) w) ≡ text-of x) × (getD w (9187 + 1) 0 ≤ 32)
@@ -214,9 +229,3 @@ from-fits (ListFrom.Continue c) ok = ok .0
 
 pub from-within-32 : (w r : List ℕ) → HasState w → r ≡ take (getD w (9187 + 1) 0) (drop (9187 + 2) w) → length r ≤ 32
 from-within-32 w r K e = subst (λ (x : List ℕ). length x ≤ 32) (sym (from-reads w r e .is (K .state) (K .keeps))) (from-fits (pass-of (K .state .pass) .from) (K .keeps .fits .pass .from))
-
--- the case and the text are the whole
-pub from-whole : (x : ListFrom) → from-in (kind-of x) (text-of x) ≡ x
-from-whole ListFrom.Start = refl
-from-whole (ListFrom.Since c) = refl
-from-whole (ListFrom.Continue c) = refl

@@ -8,11 +8,11 @@ ghost use Rattle.model.specs.Seam.{ListFrom};
 ghost use Rattle.model.specs.Maps.{is-some};
 ghost use Rattle.model.specs.Machine.{with-from, with-done};
 ghost use Rattle.model.specs.Sync.{new-pass};
-ghost use Rattle.model.specs.Formats.{shortText};
+ghost use Rattle.model.specs.Formats.{shortText, listFromF};
 ghost use Rattle.state.specs.Layout.{padded, pass-of};
 ghost use Rattle.state.specs.Setters.{with-cursor, with-pass, pass-changed};
 ghost use Rattle.state.specs.Contract.{HasState, Reads, Edits};
-ghost use Rattle.pass_header.specs.From.{kind-of, kind-from, text-of};
+ghost use Rattle.pass_header.specs.From.{text-of, from-in, FromAs};
 
 // The case of where a listing goes on from; its text stands beside it.
 pub enum FromKind {
@@ -170,8 +170,9 @@ pub fn is_done(work: &[u8]) -> bool
     true
 }
 
+// The case whose byte this is.
 fn kind(first: u8) -> FromKind
-    ensures { λ r. ⌜ r ≡ kind-from first ⌝ }
+    ensures { λ r. ⌜ ((x : ListFrom) → first ≡ getD (listFromF .enc x) 0 0 → from-in r (text-of x) ≡ x) ⌝ }
 {
     if first == 0 {
         return FromKind::Start;
@@ -185,7 +186,7 @@ fn kind(first: u8) -> FromKind
 // Where the open pass's listing goes on from: the case, and the cursor's text as that part of the work buffer.
 pub fn from_kind(work: &[u8]) -> FromKind
     requires { ⌜ HasState (now work) ⌝ }
-    ensures { λ r. ⌜ Reads (λ s. kind-of (pass-of (s .pass) .from)) (now (work .entry)) r ⌝ }
+    ensures { λ r. ⌜ FromAs (now (work .entry)) r ⌝ }
 {
     let first = work[FROM];
     kind(first)

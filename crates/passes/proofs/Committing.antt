@@ -25,7 +25,7 @@ use Rattle.state.proofs.Columns as columns
 use Rattle.records.specs.Retaining.{with-seen-records}
 use Rattle.versions.specs.Versions.{HasEvent}
 use Rattle.pass_tables.proofs.Laws as pass-tables
-use Rattle.staged.specs.Staging.{staged-of, staged-at, kind-of, StagedAt}
+use Rattle.staged.specs.Staging.{staged-of, staged-at, meantKind, KindAt, StagedAt}
 use Rattle.staged.specs.declared.StagedKind.{StagedKind}
 use Rattle.staged.specs.declared.StagedKind.the-variants as kind
 use Rattle.staged.proofs.Laws as staged
@@ -39,71 +39,53 @@ use Rattle.passes.proofs.Walking as walking
 
 -- ---- one entry
 
-abbrev place-of : StagedKind → ℕ
-place-of kind.Present = 0
-place-of kind.Unread = 1
-place-of kind.Removed = 2
-
-module _ (w q : List ℕ) (i : ℕ) (k : StagedKind) (K : HasState w) (N : Reads (λ s. name-slot (staged-at i s .0)) w q) (R : Reads (λ s. kind-of (staged-at i s .1)) w k) where
+module _ (w q : List ℕ) (i : ℕ) (k : StagedKind) (K : HasState w) (N : Reads (λ s. name-slot (staged-at i s .0)) w q) (R : KindAt i w k) where
   named : (s : SyncState) → Keeps s w → name-of q ≡ staged-at i s .0
   named s h = ap name-of (N .is s h) ∙ text-name-only (staged-at i s .0)
 
-  clash : (s : SyncState) → Keeps s w → (a b : ℕ) (v : Staged) → place-of k ≡ a → staged-at i s .1 ≡ v → place-of (kind-of v) ≡ b → (a ≡ b → ⊥) → ⊥
-  clash s h a b v e f g n = n (sym e ∙ ap place-of (R .is s h) ∙ ap (λ (x : Staged). place-of (kind-of x)) f ∙ g)
+  said : (s : SyncState) → Keeps s w → (j : StagedKind) → k ≡ j → meantKind j (staged-at i s .1)
+  said s h j e = subst (λ (x : StagedKind). meantKind x (staged-at i s .1)) e (R .is s h)
 
   pub entry-has : (at : ℕ) → k ≡ kind.Present → StagedAt i w at → (at + 882 ≤ length w) × HasEvent w at
   unfolding padded
-  entry-has at e S = (
-    (let l = K .keeps .long in let r = S .room in omega arith),
-    go (staged-at i (K .state) .1) refl,
-  )
-    where
-      go : (v : Staged) → staged-at i (K .state) .1 ≡ v → HasEvent w at
-      go (Staged.Present x) f =
-          let u = S .is (K .state) (K .keeps) x f in record {
-            event = x;
-            stands = record {
-              ok = u .0;
-              rest = zeros (882 - length (eventF .enc x)) ++ drop 882 (drop at w);
-              is = sym (take-append-drop 882 (drop at w)) ∙ ap (λ (y : List ℕ). y ++ drop 882 (drop at w)) (u .1) ∙ append-assoc (eventF .enc x) (zeros (882 - length (eventF .enc x))) (drop 882 (drop at w));
-            };
-          }
-      go Staged.Unread f = absurd (clash (K .state) (K .keeps) 0 1 Staged.Unread (ap place-of e) f refl (λ z. omega arith))
-      go Staged.Removed f = absurd (clash (K .state) (K .keeps) 0 2 Staged.Removed (ap place-of e) f refl (λ z. omega arith))
+  entry-has at e S =
+      let m = said (K .state) (K .keeps) kind.Present e in
+      let x : ProviderEvent = m .0 in
+      let u = S .is (K .state) (K .keeps) x (m .1) in (
+        (let l = K .keeps .long in let r = S .room in omega arith),
+        record {
+          event = x;
+          stands = record {
+            ok = u .0;
+            rest = zeros (882 - length (eventF .enc x)) ++ drop 882 (drop at w);
+            is = sym (take-append-drop 882 (drop at w)) ∙ ap (λ (y : List ℕ). y ++ drop 882 (drop at w)) (u .1) ∙ append-assoc (eventF .enc x) (zeros (882 - length (eventF .enc x))) (drop 882 (drop at w));
+          };
+        },
+      )
 
-  entry-by : {w′ : List ℕ} {p r : Progress} → ((s : SyncState) → Keeps s w → (v : Staged) → staged-at i s .1 ≡ v → Changes (apply-one (staged-at i s .0) v) w p r w′) → Changes (apply-at i) w p r w′
+  entry-by : {w′ : List ℕ} {p r : Progress} → ((s : SyncState) → Keeps s w → (v : Staged) × (staged-at i s .1 ≡ v) × Changes (apply-one (staged-at i s .0) v) w p r w′) → Changes (apply-at i) w p r w′
   unfolding apply-at apply-staged
   entry-by {w′} {p} {r} f = record {
-    does = λ o. for-state apply-staged (staged-at i) K (λ s h. f s h (staged-at i s .1) refl .does o);
+    does = λ o. for-state apply-staged (staged-at i) K
+        (λ s h. let x = f s h in subst (λ (v : Staged). Changes (apply-one (staged-at i s .0) v) w p r w′) (sym (x .1)) (x .2) .does o);
   }
 
   pub entry-present : {w′ : List ℕ} {p r : Progress} (at : ℕ) → k ≡ kind.Present → StagedAt i w at
       → ((e : ProviderEvent) → eventF .Ok e → take 882 (drop at w) ≡ field 882 eventF e → Changes (put-record (name-of q) e) w p r w′) → Changes (apply-at i) w p r w′
   unfolding apply-one
-  entry-present {w′} {p} {r} at e S C = entry-by go
-    where
-      go : (s : SyncState) → Keeps s w → (v : Staged) → staged-at i s .1 ≡ v → Changes (apply-one (staged-at i s .0) v) w p r w′
-      go s h (Staged.Present x) f = let u = S .is s h x f in subst (λ (n : ResourceId). Changes (put-record n x) w p r w′) (named s h) (C x (u .0) (u .1))
-      go s h Staged.Unread f = absurd (clash s h 0 1 Staged.Unread (ap place-of e) f refl (λ z. omega arith))
-      go s h Staged.Removed f = absurd (clash s h 0 2 Staged.Removed (ap place-of e) f refl (λ z. omega arith))
+  entry-present {w′} {p} {r} at e S C = entry-by (λ s h.
+      let m = said s h kind.Present e in
+      let u = S .is s h (m .0) (m .1) in
+      (Staged.Present (m .0), m .1, subst (λ (n : ResourceId). Changes (put-record n (m .0)) w p r w′) (named s h) (C (m .0) (u .0) (u .1))))
 
   pub entry-unread : (p : Progress) → k ≡ kind.Unread → Changes (apply-at i) w p p w
   unfolding apply-one
-  entry-unread p e = entry-by go
-    where
-      go : (s : SyncState) → Keeps s w → (v : Staged) → staged-at i s .1 ≡ v → Changes (apply-one (staged-at i s .0) v) w p p w
-      go s h (Staged.Present x) f = absurd (clash s h 1 0 (Staged.Present x) (ap place-of e) f refl (λ z. omega arith))
-      go s h Staged.Unread f = changing.no-change
-      go s h Staged.Removed f = absurd (clash s h 1 2 Staged.Removed (ap place-of e) f refl (λ z. omega arith))
+  entry-unread p e = entry-by (λ s h. (Staged.Unread, said s h kind.Unread e, changing.no-change))
 
   pub entry-removed : {w′ : List ℕ} (p : Progress) → k ≡ kind.Removed → Edits (λ s. with-records (remove by-name (name-of q) (s .records)) s) w w′ → Changes (apply-at i) w p p w′
   unfolding apply-one remove-record set-records
-  entry-removed {w′} p e E = entry-by go
-    where
-      go : (s : SyncState) → Keeps s w → (v : Staged) → staged-at i s .1 ≡ v → Changes (apply-one (staged-at i s .0) v) w p p w′
-      go s h (Staged.Present x) f = absurd (clash s h 2 0 (Staged.Present x) (ap place-of e) f refl (λ z. omega arith))
-      go s h Staged.Unread f = absurd (clash s h 2 1 Staged.Unread (ap place-of e) f refl (λ z. omega arith))
-      go s h Staged.Removed f = subst (λ (n : ResourceId). Changes (λ m. ok (remove-record n m)) w p p w′) (named s h) (changing.edits E)
+  entry-removed {w′} p e E = entry-by (λ s h.
+      (Staged.Removed, said s h kind.Removed e, subst (λ (n : ResourceId). Changes (λ m. ok (remove-record n m)) w p p w′) (named s h) (changing.edits E)))
 
 -- ---- all entries: they leave the pass alone, whatever it is
 

@@ -33,10 +33,9 @@ use Rattle.state.specs.Layout.{padded, pass-of}
 use Rattle.state.specs.Setters.{with-pass, with-cursor, with-in-flight, with-learned-all, pass-changed}
 use Rattle.state.specs.Contract.{Keeps, HasState, Reads, Edits}
 use Rattle.state.specs.Values.{Named}
-use Rattle.pass_header.specs.From.{kind-of, text-of, from-in}
+use Rattle.pass_header.specs.From.{text-of, from-in, FromAs}
 use Rattle.pass_header.specs.declared.FromKind.{FromKind}
 use Rattle.pass_header.specs.declared.FromKind.the-variants as from
-use Rattle.pass_header.proofs.Laws.{from-whole}
 use Rattle.staged.proofs.Bridge.{pass-full-is}
 use Rattle.machine.specs.declared.Progress.{Progress}
 use Rattle.machine.specs.Contract.{Does, Changes, Pushes}
@@ -49,22 +48,22 @@ use Rattle.observe.proofs.Observing as observing
 
 -- ---- a request for a page
 
-module _ {w o o′ : List ℕ} {p q : Pen} (id : ℕ) (k : FromKind) (K : Reads (λ s. kind-of (pass-of (s .pass) .from)) w k) where
+module _ {w o o′ : List ℕ} {p q : Pen} (id : ℕ) (k : FromKind) (K : FromAs w k) where
   asks : (s : SyncState) (f : ListFrom) → f ≡ pass-of (s .pass) .from → Told (Effect.Request id (Request.List f)) o o′ p q → Told (Effect.Request id (Request.List (pass-of (s .pass) .from))) o o′ p q
   asks s f e T = subst (λ (x : ListFrom). Told (Effect.Request id (Request.List x)) o o′ p q) e T
 
   pub ask-start : k ≡ from.Start → Told (Effect.Request id (Request.List ListFrom.Start)) o o′ p q
       → (s : SyncState) → Keeps s w → Told (Effect.Request id (Request.List (pass-of (s .pass) .from))) o o′ p q
-  ask-start e T s h = asks s ListFrom.Start (ap (λ (x : FromKind). from-in x (text-of (pass-of (s .pass) .from))) (sym e ∙ K .is s h) ∙ from-whole (pass-of (s .pass) .from)) T
+  ask-start e T s h = asks s ListFrom.Start (ap (λ (x : FromKind). from-in x (text-of (pass-of (s .pass) .from))) (sym e) ∙ K .is s h) T
 
   module _ (t : Text) (X : Reads (λ s. text-of (pass-of (s .pass) .from)) w t) where
     pub ask-since : k ≡ from.Since → Told (Effect.Request id (Request.List (ListFrom.Since t))) o o′ p q
         → (s : SyncState) → Keeps s w → Told (Effect.Request id (Request.List (pass-of (s .pass) .from))) o o′ p q
-    ask-since e T s h = asks s (ListFrom.Since t) (ap₂ from-in (sym e ∙ K .is s h) (X .is s h) ∙ from-whole (pass-of (s .pass) .from)) T
+    ask-since e T s h = asks s (ListFrom.Since t) (ap₂ from-in (sym e) (X .is s h) ∙ K .is s h) T
 
     pub ask-continue : k ≡ from.Continue → Told (Effect.Request id (Request.List (ListFrom.Continue t))) o o′ p q
         → (s : SyncState) → Keeps s w → Told (Effect.Request id (Request.List (pass-of (s .pass) .from))) o o′ p q
-    ask-continue e T s h = asks s (ListFrom.Continue t) (ap₂ from-in (sym e ∙ K .is s h) (X .is s h) ∙ from-whole (pass-of (s .pass) .from)) T
+    ask-continue e T s h = asks s (ListFrom.Continue t) (ap₂ from-in (sym e) (X .is s h) ∙ K .is s h) T
 
 pub short-enough : (t : Text) → shortText .Ok t → length t ≤ 255
 unfolding textFormat max-text

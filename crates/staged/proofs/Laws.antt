@@ -1,5 +1,5 @@
 -- The staged entries of the open pass: each law's premises are what the callees ensure. Assumes nothing.
-use Prim.Native.Nat.{ℕ, zero, suc, _+_, _-_, _*_, _≤_, _<_}
+use Prim.Native.Nat.{ℕ, suc, _+_, _-_, _*_, _≤_, _<_}
 use native.Mathlib.Omega.{arith}
 use mathlib.Core.Path.{_≡_, refl, sym, ap, ap₂, _∙_, subst}
 use mathlib.Core.List.{List, [], _∷_, _++_, append-assoc}
@@ -41,7 +41,7 @@ use Rattle.state.proofs.Columns.{Column}
 use Rattle.pass_tables.proofs.Laws as pass
 use Rattle.pass_tables.proofs.Laws.{Opened}
 use Rattle.records.proofs.Laws as records
-use Rattle.staged.specs.Staging.{staged-of, may-stage, with-stage, without-stage, staged-at, kind-of, kind-from, StagedAt}
+use Rattle.staged.specs.Staging.{staged-of, may-stage, with-stage, without-stage, staged-at, meantKind, KindAt, StagedAt}
 use Rattle.staged.specs.declared.StagedKind.{StagedKind}
 use Rattle.staged.specs.declared.StagedKind.the-variants as kind
 
@@ -174,7 +174,7 @@ unread-byte (Staged.Present e) = refl
 unread-byte Staged.Unread = refl
 unread-byte Staged.Removed = refl
 
-kind-byte : (v : Staged) → kind-from (getD (field 883 stagedF v) 0 0) ≡ kind-of v
+kind-byte : (v : Staged) → getD (field 883 stagedF v) 0 0 ≡ getD (stagedF .enc v) 0 0
 unfolding stagedF via enum _∣_ nothing padded
 kind-byte (Staged.Present e) = refl
 kind-byte Staged.Unread = refl
@@ -259,9 +259,9 @@ staged-name w q i K l e = (
   ops.slot-named q (staged-at i (K .state) .0) (nth w i (K .state) (K .keeps) l .1 .0) (name-is w q i (K .state) (K .keeps) l e) .1,
 )
 
-pub staged-kind : (w : List ℕ) (i : ℕ) (r : StagedKind) → i < getD w 9221 0 → r ≡ kind-from (getD w (9221 + 1 + i * 916 + 33) 0) → Reads (λ s. kind-of (staged-at i s .1)) w r
-staged-kind w i r l e = record {
-  is = λ s h. let u = nth w i s h l in e ∙ ap kind-from (first-byte w (9221 + 1 + i * 916) (staged-at i s) (u .1 .0) (u .0)) ∙ kind-byte (staged-at i s .1);
+pub staged-kind : (w : List ℕ) (i : ℕ) (r : StagedKind) → i < getD w 9221 0 → ((v : Staged) → getD w (9221 + 1 + i * 916 + 33) 0 ≡ getD (stagedF .enc v) 0 0 → meantKind r v) → KindAt i w r
+staged-kind w i r l g = record {
+  is = λ s h. let u = nth w i s h l in g (staged-at i s .1) (first-byte w (9221 + 1 + i * 916) (staged-at i s) (u .1 .0) (u .0) ∙ kind-byte (staged-at i s .1));
 }
 
 present-ok : (v : Staged) (e : ProviderEvent) → stagedF .Ok v → v ≡ Staged.Present e → eventF .Ok e
@@ -288,7 +288,21 @@ staged-event w i K l = record {
     event-long e ok = length-field event-within e ok
 
 -- the kind of a byte
-pub kind-last : (n : ℕ) → (n ≡ 0 → ⊥) → (n ≡ 1 → ⊥) → kind.Removed ≡ kind-from n
-kind-last zero a b = absurd (a refl)
-kind-last (suc zero) a b = absurd (b refl)
-kind-last (suc (suc n)) a b = refl
+
+pub kind-present : (n : ℕ) → n ≡ 0 → (v : Staged) → n ≡ getD (stagedF .enc v) 0 0 → meantKind kind.Present v
+unfolding stagedF via enum _∣_ nothing
+kind-present n z (Staged.Present x) e = (x, refl)
+kind-present n z Staged.Unread e = absurd (omega arith)
+kind-present n z Staged.Removed e = absurd (omega arith)
+
+pub kind-is-unread : (n : ℕ) → n ≡ 1 → (v : Staged) → n ≡ getD (stagedF .enc v) 0 0 → meantKind kind.Unread v
+unfolding stagedF via enum _∣_ nothing
+kind-is-unread n z (Staged.Present x) e = absurd (omega arith)
+kind-is-unread n z Staged.Unread e = refl
+kind-is-unread n z Staged.Removed e = absurd (omega arith)
+
+pub kind-removed : (n : ℕ) → (n ≡ 0 → ⊥) → (n ≡ 1 → ⊥) → (v : Staged) → n ≡ getD (stagedF .enc v) 0 0 → meantKind kind.Removed v
+unfolding stagedF via enum _∣_ nothing
+kind-removed n y z (Staged.Present x) e = absurd (y e)
+kind-removed n y z Staged.Unread e = absurd (z e)
+kind-removed n y z Staged.Removed e = refl

@@ -1,5 +1,5 @@
 -- The staged entries of the open pass: what the code says of one by value, and where its event stands. Assumes nothing.
-use Prim.Native.Nat.{ℕ, zero, suc, _+_, _≤_}
+use Prim.Native.Nat.{ℕ, _+_, _≤_}
 use mathlib.Core.Path.{_≡_}
 use mathlib.Core.List.{List, []}
 use mathlib.Core.Bool.{Bool, true}
@@ -37,16 +37,15 @@ without-stage name = pass-changed (λ p. with-staged (remove by-name name (p .st
 abbrev pub staged-at : ℕ → SyncState → ResourceId × Staged
 staged-at i s = getD (staged-of s) i ([], Staged.Unread)
 
-abbrev pub kind-of : Staged → StagedKind
-kind-of (Staged.Present e) = kind.Present
-kind-of Staged.Unread = kind.Unread
-kind-of Staged.Removed = kind.Removed
+-- what an answer of `staged_kind` says of an entry; its event stands where `staged_event` answers
+abbrev pub meantKind : StagedKind → Staged → Type 0
+meantKind kind.Present v = (e : ProviderEvent) × (v ≡ Staged.Present e)
+meantKind kind.Unread v = v ≡ Staged.Unread
+meantKind kind.Removed v = v ≡ Staged.Removed
 
--- the kind of a byte
-abbrev pub kind-from : ℕ → StagedKind
-kind-from zero = kind.Present
-kind-from (suc zero) = kind.Unread
-kind-from (suc (suc n)) = kind.Removed
+-- the kind of entry i
+pub record KindAt (i : ℕ) (w : List ℕ) (r : StagedKind) : Type 0 where
+  pub is : (s : SyncState) → Keeps s w → meantKind r (staged-at i s .1)
 
 -- if entry i is an event, it stands, zero padded, in the 882 bytes at p
 pub record StagedAt (i : ℕ) (w : List ℕ) (p : ℕ) : Type 0 where

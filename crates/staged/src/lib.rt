@@ -15,7 +15,7 @@ ghost use Rattle.state.specs.Layout.{name-slot};
 ghost use Rattle.state.specs.Contract.{HasState, Reads, Edits, Tries};
 ghost use Rattle.state.specs.Values.{name-of, Named};
 ghost use Rattle.records.specs.Events.{IsEvent};
-ghost use Rattle.staged.specs.Staging.{staged-of, may-stage, with-stage, without-stage, staged-at, kind-of, kind-from, StagedAt};
+ghost use Rattle.staged.specs.Staging.{staged-of, may-stage, with-stage, without-stage, staged-at, meantKind, KindAt, StagedAt};
 
 pub enum StagedKind {
     Present,
@@ -114,8 +114,9 @@ pub fn staged_name(work: &[u8], i: usize) -> Name
     names::name_at(work, STAGED + 1 + i * STAGED_SLOT)
 }
 
+// The kind whose byte this is.
 fn kind(first: u8) -> StagedKind
-    ensures { λ r. ⌜ r ≡ kind-from first ⌝ }
+    ensures { λ r. ⌜ ((v : Staged) → first ≡ getD (stagedF .enc v) 0 0 → meantKind r v) ⌝ }
 {
     if first == 0 {
         return StagedKind::Present;
@@ -130,7 +131,7 @@ fn kind(first: u8) -> StagedKind
 pub fn staged_kind(work: &[u8], i: usize) -> StagedKind
     requires { ⌜ HasState (now work) ⌝ }
     requires { ⌜ i < getD (now work) 9221 0 ⌝ }
-    ensures { λ r. ⌜ Reads (λ s. kind-of (staged-at i s .1)) (now (work .entry)) r ⌝ }
+    ensures { λ r. ⌜ KindAt i (now (work .entry)) r ⌝ }
 {
     let first = work[STAGED + 1 + i * STAGED_SLOT + 33];
     kind(first)

@@ -13,16 +13,16 @@ use Rattle.flights.proofs.kind_of.Reads as reads
 use Rattle.flights.proofs.kind_of.Lts as lts
 
 returns : tie.Need-returns
-returns c = search needs
+returns c = λ l. sym (c .if1 .taken)
 
 returns-2 : tie.Need-returns-2
-returns-2 c = search needs
+returns-2 c = λ l. sym (c .if2 .taken)
 
 returns-3 : tie.Need-returns-3
-returns-3 c = search needs
+returns-3 c = λ l. sym (c .if3 .taken)
 
 returns-4 : tie.Need-returns-4
-returns-4 c = search needs
+returns-4 c = λ l. sym (c .if4 .taken)
 
 returns-5 : tie.Need-returns-5
 returns-5 c = laws.kind-last _ (c .before .before .before .if1 .left) (c .before .before .if2 .left) (c .before .if3 .left) (c .if4 .left)

@@ -11,13 +11,13 @@ use Rattle.pass_header.proofs.kind.Reads as reads
 use Rattle.pass_header.proofs.kind.Lts as lts
 
 returns : tie.Need-returns
-returns c = search needs
+returns c = laws.kind-start _ (c .if1 .taken)
 
 returns-2 : tie.Need-returns-2
-returns-2 c = search needs
+returns-2 c = laws.kind-since _ (c .if2 .taken)
 
 returns-3 : tie.Need-returns-3
-returns-3 c = laws.kind-last _ (c .before .if1 .left) (c .if2 .left)
+returns-3 c = laws.kind-continue _ (c .before .if1 .left) (c .if2 .left)
 
 pub kind-spec : {M : Type 1} → statement M
 kind-spec = tie.close (tie.spec returns returns-2 returns-3)

@@ -14,13 +14,13 @@ use Rattle.staged.proofs.kind.Reads as reads
 use Rattle.staged.proofs.kind.Lts as lts
 
 returns : tie.Need-returns
-returns c = search needs
+returns c = laws.kind-present _ (c .if1 .taken)
 
 returns-2 : tie.Need-returns-2
-returns-2 c = search needs
+returns-2 c = laws.kind-is-unread _ (c .if2 .taken)
 
 returns-3 : tie.Need-returns-3
-returns-3 c = laws.kind-last _ (c .before .if1 .left) (c .if2 .left)
+returns-3 c = laws.kind-removed _ (c .before .if1 .left) (c .if2 .left)
 
 pub kind-spec : {M : Type 1} → statement M
 kind-spec = tie.close (tie.spec returns returns-2 returns-3)
