@@ -273,7 +273,7 @@ flight-room w n i H R h =
 
 -- ---- the cursor
 
-byte-in : (w : List ℕ) (at size k : ℕ) → k < size → getD w (at + k) 0 ≡ getD (part at size w) k 0
+pub byte-in : (w : List ℕ) (at size k : ℕ) → k < size → getD w (at + k) 0 ≡ getD (part at size w) k 0
 byte-in w at size k h = sym (getD-take size (drop at w) k 0 h ∙ getD-drop at w k 0)
 
 pub cursor-none : (w : List ℕ) → getD w 9151 0 ≡ 0 → Reads (λ s. s .cursor) w none

@@ -11,7 +11,7 @@ use Rattle.spans.specs.Compare.{order}
 use Rattle.tables.specs.Table.{text, isEqual}
 use Rattle.model.specs.Event.{ProviderEvent}
 use Rattle.model.specs.Seam.{ResourceId}
-use Rattle.model.specs.State.{SyncState, new}
+use Rattle.model.specs.State.{Queue, SyncState, new}
 use Rattle.model.specs.Limits.{document01}
 use Rattle.model.specs.Maps.{if_then_else_}
 use Rattle.model.specs.Machine.{match_none:_some:_}
@@ -60,6 +60,11 @@ numbered (some n) = (true, n)
 unfoldable pub record-bytes : Option (ResourceId × ProviderEvent) → Option (List ℕ × List ℕ)
 record-bytes none = none
 record-bytes (some e) = some (e .0, eventF .enc (e .1))
+
+-- a queue's resource, and how many entries wait in it
+unfoldable pub queue-count : Option (ResourceId × Queue) → Option (ResourceId × ℕ)
+queue-count none = none
+queue-count (some e) = some (e .0, length (e .1))
 
 -- a slot of a waiting entry of the resource
 unfoldable pub isOf : List ℕ → List ℕ → Bool

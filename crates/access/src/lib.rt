@@ -1,6 +1,7 @@
 // What a state says of itself, for any lent bytes: no function here asks anything of them.
 use spans::Order;
 use state::Numbered;
+use tables::Place;
 use wellformed::STATE;
 ghost use mathlib.Core.Path.{_≡_};
 ghost use mathlib.Core.Bool.{false};
@@ -16,7 +17,7 @@ ghost use Rattle.model.specs.Demands.{waiting-count};
 ghost use Rattle.state.specs.Contract.{HasState, Reads};
 ghost use Rattle.state.specs.Values.{number-in};
 ghost use Rattle.wellformed.specs.Tests.{countSlots};
-ghost use Rattle.access.specs.Answers.{Checked, Answers, Freshened, nth, numbered, record-bytes, isOf};
+ghost use Rattle.access.specs.Answers.{Checked, Answers, Freshened, nth, numbered, record-bytes, queue-count, isOf};
 
 pub const REFUSED_LENGTH: u8 = 1;
 
@@ -326,4 +327,59 @@ pub fn record_at(state: &[u8], i: usize) -> RecordAnswer
         };
     }
     record_bytes(state, i)
+}
+
+// ---- the queues
+
+pub struct QueueAnswer {
+    pub code: u8,
+    pub found: bool,
+    pub name: Part,
+    pub count: usize,
+}
+
+fn no_queue(code: u8) -> QueueAnswer
+    ensures { λ r. ⌜ (r .code ≡ code) × (r .found ≡ false) × (r .name .at ≡ 0) × (r .name .length ≡ 0) ⌝ }
+{
+    QueueAnswer {
+        code,
+        found: false,
+        name: Part { at: 0, length: 0 },
+        count: 0,
+    }
+}
+
+fn queue_bytes(state: &[u8], i: usize) -> QueueAnswer
+    requires { ⌜ HasState (now state) ⌝ }
+    ensures { λ r. ⌜ (r .code ≡ 0) × Reads (λ s. queue-count (nth i (s .edits))) (now (state .entry)) (kept (r .found) (part (r .name .at) (r .name .length) (now (state .entry)), r .count)) × (r .name .at + r .name .length ≤ length (now (state .entry))) ⌝ }
+{
+    let names = waiting::resources(state);
+    let n = names.count;
+    if n <= i {
+        return no_queue(0);
+    }
+    let name = waiting::resource_name(names, i);
+    let head = waiting::find_entry(state, name, 0);
+    let Place::Found(at) = head else {
+        return no_queue(0);
+    };
+    let length = byte_at(state, at);
+    let count = waiting::waiting_count(state, name);
+    QueueAnswer {
+        code: 0,
+        found: true,
+        name: Part { at: at + 1, length },
+        count,
+    }
+}
+
+// The queue at a place in the order of their resources: its resource, by its place in the buffer, and how many entries wait in it.
+pub fn queue_at(state: &[u8], i: usize) -> QueueAnswer
+    ensures { λ r. ⌜ Answers (λ s. queue-count (nth i (s .edits))) none (now (state .entry)) (r .code) (kept (r .found) (part (r .name .at) (r .name .length) (now (state .entry)), r .count)) × (r .name .at + r .name .length ≤ length (now (state .entry))) ⌝ }
+{
+    let code = refusal(state);
+    if code != 0 {
+        return no_queue(code);
+    }
+    queue_bytes(state, i)
 }

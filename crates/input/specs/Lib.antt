@@ -1,0 +1,4 @@
+-- The lines of an input, and the splitter.
+pub mod Input
+-- What the functions promise.
+pub mod Ready
