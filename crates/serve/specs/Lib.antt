@@ -1,1 +1,2 @@
-pub mod Ready
+-- What is written for lines, and the state after them.
+pub mod Serves

@@ -1,54 +1,48 @@
 // Document 01's program over standard input and output: each line is answered before more is read.
-mod input;
-
 use libc::STDOUT_FILENO;
 ghost use Prim.Native.Nat.{_≤_};
 ghost use lib.ListN.{length};
-ghost use Rattle.program.specs.Answers.{Buffers};
-ghost use Rattle.looks.specs.Queues.{Queues};
+ghost use Rattle.serve.specs.Serves.{Lent, Replies, Replied, Served};
 
 // The longest answer, with what can be read behind it.
-const TEXT: usize = 117478;
+const TEXT: usize = program::TEXT + looks::LOOK;
 
-// Writes what can be read of the state behind the answer, where that is asked for.
-fn look_after(
+// Answers a line: the state goes on, and the answer stands at the start of `text`, with what can be read of the state behind it where that is
+// asked for.
+fn reply(
     look: bool,
-    state: &[u8],
-    names: &mut [u8],
-    effects: &[u8],
+    state: &mut [u8],
+    work: &mut [u8],
+    out: &mut [u8],
+    frame: &mut [u8],
+    line: &[u8],
     text: &mut [u8],
-    at: usize,
 ) -> usize
-    requires { ⌜ Queues (now names) ⌝ }
-    requires { ⌜ at ≤ length (now text) ⌝ }
-    ensures { λ r. ⌜ (r ≤ length (now (text .entry))) × Queues (now (names .exit)) ⌝ }
+    requires { ⌜ Lent (now state) (now work) (now out) (now frame) (now text) ⌝ }
+    ensures { λ r. ⌜ Replies look (now (line .entry)) (now (state .entry)) (now (state .exit)) (now (text .exit)) r ⌝ }
 {
+    let r = program::answer_line(state, work, out, frame, line, text);
+    let written = r.text;
     if !look {
-        return at;
+        return written;
     }
-    looks::renew(state, names, effects);
-    looks::put_look(state, names, text, at)
+    looks::put_look(state, text, written)
 }
 
-// Answers a line. False where the answer cannot be written.
+// Answers a line, and writes the answer. False where it cannot be written.
 fn answer(
     look: bool,
     state: &mut [u8],
     work: &mut [u8],
     out: &mut [u8],
     frame: &mut [u8],
-    names: &mut [u8],
     line: &[u8],
     text: &mut [u8],
 ) -> bool
-    requires { ⌜ Buffers (now state) (now work) (now out) (now frame) (now text) ⌝ }
-    requires { ⌜ Queues (now names) ⌝ }
-    ensures { λ _. ⌜ Queues (now (names .exit)) ⌝ }
+    requires { ⌜ Lent (now state) (now work) (now out) (now frame) (now text) ⌝ }
+    ensures { λ _. ⌜ Replied look (now (line .entry)) (now (state .entry)) (now (state .exit)) (now (text .exit)) ⌝ }
 {
-    let r = program::answer_line(state, work, out, frame, line, text);
-    let effects = r.effects;
-    let written = r.text;
-    let n = look_after(look, state, names, &out[..effects], text, written);
+    let n = reply(look, state, work, out, frame, line, text);
     io::write_all(STDOUT_FILENO, &text[..n])
 }
 
@@ -59,13 +53,12 @@ fn answer_all(
     work: &mut [u8],
     out: &mut [u8],
     frame: &mut [u8],
-    names: &mut [u8],
     line: &mut [u8],
     text: &mut [u8],
     chunk: &mut [u8],
 )
-    requires { ⌜ Buffers (now state) (now work) (now out) (now frame) (now text) ⌝ }
-    requires { ⌜ Queues (now names) ⌝ }
+    requires { ⌜ Lent (now state) (now work) (now out) (now frame) (now text) ⌝ }
+    ensures { λ _. ⌜ Served (length (now (line .entry))) (now (state .entry)) (now (state .exit)) ⌝ }
 {
     let mut at: usize = 0;
     let mut end: usize = 0;
@@ -76,7 +69,10 @@ fn answer_all(
         if !p.whole {
             return;
         }
-        if !answer(look, state, work, out, frame, names, &line[..have], text) {
+        if !answer(look, state, work, out, frame, &line[..have], text) {
+            return;
+        }
+        if p.ended {
             return;
         }
         at = p.at;
@@ -91,7 +87,6 @@ pub fn serve(look: bool) {
     let mut work = [0u8; engine::STATE];
     let mut out = [0u8; frame::MAX_EFFECTS];
     let mut frame = [0u8; lines::MAX_FRAME];
-    let mut names = [0u8; looks::QUEUES];
     let mut line = [0u8; lines::LINE];
     let mut text = [0u8; TEXT];
     let mut chunk = io::large_buffer();
@@ -102,7 +97,6 @@ pub fn serve(look: bool) {
         &mut work,
         &mut out,
         &mut frame,
-        &mut names,
         &mut line,
         &mut text,
         &mut chunk,

@@ -1,24 +1,25 @@
-use Rattle.looks.specs.Queues.{Queues}
+use Rattle.serve.proofs.Laws.{Reading, reading-start, reading-served, served-line, reading-line}
+use Rattle.input.specs.Ready.{between}
 use lib.Seq.{length-take-le}
 use lib.ListN.{length}
 use Prim.Native.Nat.{_≤_}
-use mathlib.Core.Path.{_≡_, sym}
+use mathlib.Core.Path.{_≡_, refl, sym}
 use native.Mathlib.Omega.{arith}
 use borrow.Author.Needs.{needs}
 use Rattle.serve.proofs.answer_all.Statement.{statement}
 use Rattle.serve.proofs.answer_all.Tie as tie
 
 abbrev Inv-loop : tie.InvT-loop
-Inv-loop look state₀ work₀ out₀ frame₀ names₀ line₀ text₀ chunk₀ at₀ end₀ turns₀ state work out frame names line text chunk at end turns =
+Inv-loop look state₀ work₀ out₀ frame₀ line₀ text₀ chunk₀ at₀ end₀ turns₀ state work out frame line text chunk at end turns =
     (length state ≡ length state₀) × (length work ≡ length work₀) × (length out ≡ length out₀) × (length frame ≡ length frame₀)
-    × (length names ≡ length names₀) × (length line ≡ length line₀) × (length text ≡ length text₀) × (length chunk ≡ length chunk₀)
-    × (at ≤ end) × (end ≤ length chunk₀) × Queues names
+    × (length line ≡ length line₀) × (length text ≡ length text₀) × (length chunk ≡ length chunk₀)
+    × (at ≤ end) × (end ≤ length chunk₀) × Reading (length line₀) state₀ state (between at end chunk)
 
 abbrev μ-loop : tie.MeasureT-loop
-μ-loop look state₀ work₀ out₀ frame₀ names₀ line₀ text₀ chunk₀ at₀ end₀ turns₀ state work out frame names line text chunk at end turns = turns
+μ-loop look state₀ work₀ out₀ frame₀ line₀ text₀ chunk₀ at₀ end₀ turns₀ state work out frame line text chunk at end turns = turns
 
 loop-holds : tie.Need-loop-holds Inv-loop μ-loop
-loop-holds c = search needs
+loop-holds c = (search needs, search needs, search needs, search needs, search needs, search needs, search needs, search needs, search needs, reading-start _ _ _ refl)
 
 read-line-requires : tie.Need-read-line-requires Inv-loop μ-loop
 read-line-requires c κs = search needs
@@ -44,25 +45,20 @@ same-length-6 c = search needs
 same-length-7 : tie.Need-same-length-7 Inv-loop μ-loop
 same-length-7 c = search needs
 
-same-length-8 : tie.Need-same-length-8 Inv-loop μ-loop
-same-length-8 c = search needs
-
 returns : tie.Need-returns Inv-loop μ-loop
-returns c = search needs
+returns c = reading-served (c .before .before .before .before .before .before .before .before .before .before .loop .inv .9)
 
 slice-reshare-prefix-answer : tie.Need-slice-reshare-prefix-answer Inv-loop μ-loop
 slice-reshare-prefix-answer c = search needs
 
 slice-aggregate-answer : tie.Need-slice-aggregate-answer Inv-loop μ-loop
-slice-aggregate-answer c =
-    let k : c .before .before .before .before .before .before .before .before .before .before .before .before .read-line .result .have ≤ length (c .before .before .before .before .before .before .before .before .before .before .before .before .read-line .last .1 .0) = search needs in
-    sym (length-take-le _ _ k)
+slice-aggregate-answer c = sym (length-take-le _ _ (c .before .before .before .before .before .before .before .before .before .before .before .read-line .ensures .ready .kept))
 
 answer-requires : tie.Need-answer-requires Inv-loop μ-loop
-answer-requires c κs = (
-  record { for-state = search needs; for-work = search needs; for-out = search needs; for-frame = search needs; for-text = search needs },
-  c .before .before .before .before .before .before .before .before .before .before .before .before .before .before .before .before .before .loop .inv .10,
-)
+answer-requires c κs = record { buffers = record { for-state = search needs; for-work = search needs; for-out = search needs; for-frame = search needs; for-text = search needs }; room = search needs }
+
+same-length-8 : tie.Need-same-length-8 Inv-loop μ-loop
+same-length-8 c = search needs
 
 same-length-9 : tie.Need-same-length-9 Inv-loop μ-loop
 same-length-9 c = search needs
@@ -82,35 +78,14 @@ same-length-13 c = search needs
 same-length-14 : tie.Need-same-length-14 Inv-loop μ-loop
 same-length-14 c = search needs
 
+returns-2 : tie.Need-returns-2 Inv-loop μ-loop
+returns-2 c = served-line _ _ (c .before .before .before .before .before .before .before .before .before .before .before .before .before .before .before .before .before .before .before .before .before .before .before .before .before .before .before .before .loop .inv .9) (c .before .before .before .before .before .before .before .before .before .before .before .answer .ensures .is .goes-on) _ (search needs) _ _ (c .before .before .before .before .before .before .before .before .before .before .before .before .before .before .before .before .before .before .if1 .left) (c .before .before .before .before .before .before .before .before .before .before .before .before .before .before .before .before .before .before .before .before .before .before .before .before .read-line .ensures .splits)
+
 same-length-15 : tie.Need-same-length-15 Inv-loop μ-loop
 same-length-15 c = search needs
 
 same-length-16 : tie.Need-same-length-16 Inv-loop μ-loop
 same-length-16 c = search needs
-
-returns-2 : tie.Need-returns-2 Inv-loop μ-loop
-returns-2 c = search needs
-
-sub-turns : tie.Need-sub-turns Inv-loop μ-loop
-sub-turns c = search needs
-
-loop-less : tie.Need-loop-less Inv-loop μ-loop
-loop-less c = search needs
-
-loop-again : tie.Need-loop-again Inv-loop μ-loop
-loop-again c = (
-  search needs,
-  search needs,
-  search needs,
-  search needs,
-  search needs,
-  search needs,
-  search needs,
-  search needs,
-  c .before .before .before .before .before .before .before .before .before .before .before .before .before .before .before .before .before .before .before .before .before .before .before .before .before .before .before .read-line .ensures .left,
-  search needs,
-  c .before .before .before .before .before .before .before .before .before .before .before .before .before .answer .ensures,
-)
 
 same-length-17 : tie.Need-same-length-17 Inv-loop μ-loop
 same-length-17 c = search needs
@@ -127,6 +102,18 @@ same-length-20 c = search needs
 same-length-21 : tie.Need-same-length-21 Inv-loop μ-loop
 same-length-21 c = search needs
 
+returns-3 : tie.Need-returns-3 Inv-loop μ-loop
+returns-3 c = served-line _ _ (c .before .before .before .before .before .before .before .before .before .before .before .before .before .before .before .before .before .before .before .before .before .before .before .before .before .before .before .before .before .loop .inv .9) (c .before .before .before .before .before .before .before .before .before .before .before .before .answer .ensures .is .goes-on) _ (search needs) _ _ (c .before .before .before .before .before .before .before .before .before .before .before .before .before .before .before .before .before .before .before .if1 .left) (c .before .before .before .before .before .before .before .before .before .before .before .before .before .before .before .before .before .before .before .before .before .before .before .before .before .read-line .ensures .splits)
+
+sub-turns : tie.Need-sub-turns Inv-loop μ-loop
+sub-turns c = search needs
+
+loop-less : tie.Need-loop-less Inv-loop μ-loop
+loop-less c = search needs
+
+loop-again : tie.Need-loop-again Inv-loop μ-loop
+loop-again c = (search needs, search needs, search needs, search needs, search needs, search needs, search needs, c .before .before .before .before .before .before .before .before .before .before .before .before .before .before .before .before .before .before .before .before .before .before .before .before .before .read-line .ensures .ready .left, search needs, reading-line _ _ (c .before .before .before .before .before .before .before .before .before .before .before .before .before .before .before .before .before .before .before .before .before .before .before .before .before .before .before .before .before .loop .inv .9) (c .before .before .before .before .before .before .before .before .before .before .before .before .answer .ensures .is .goes-on) _ (search needs) _ _ (c .before .before .before .before .before .before .before .before .before .before .before .before .before .before .before .before .before .before .before .if1 .left) (c .if3 .left) (c .before .before .before .before .before .before .before .before .before .before .before .before .before .before .before .before .before .before .before .before .before .before .before .before .before .read-line .ensures .splits))
+
 same-length-22 : tie.Need-same-length-22 Inv-loop μ-loop
 same-length-22 c = search needs
 
@@ -136,8 +123,20 @@ same-length-23 c = search needs
 same-length-24 : tie.Need-same-length-24 Inv-loop μ-loop
 same-length-24 c = search needs
 
-returns-3 : tie.Need-returns-3 Inv-loop μ-loop
-returns-3 c = search needs
+same-length-25 : tie.Need-same-length-25 Inv-loop μ-loop
+same-length-25 c = search needs
+
+same-length-26 : tie.Need-same-length-26 Inv-loop μ-loop
+same-length-26 c = search needs
+
+same-length-27 : tie.Need-same-length-27 Inv-loop μ-loop
+same-length-27 c = search needs
+
+same-length-28 : tie.Need-same-length-28 Inv-loop μ-loop
+same-length-28 c = search needs
+
+returns-4 : tie.Need-returns-4 Inv-loop μ-loop
+returns-4 c = reading-served (c .before .loop .inv .9)
 
 pub answer-all-spec : {M : Type 1} → statement M
 answer-all-spec =
@@ -154,29 +153,34 @@ answer-all-spec =
     same-length-5
     same-length-6
     same-length-7
-    same-length-8
     returns
     slice-reshare-prefix-answer
     slice-aggregate-answer
     answer-requires
+    same-length-8
     same-length-9
     same-length-10
     same-length-11
     same-length-12
     same-length-13
     same-length-14
+    returns-2
     same-length-15
     same-length-16
-    returns-2
-    sub-turns
-    loop-less
-    loop-again
     same-length-17
     same-length-18
     same-length-19
     same-length-20
     same-length-21
+    returns-3
+    sub-turns
+    loop-less
+    loop-again
     same-length-22
     same-length-23
     same-length-24
-    returns-3)
+    same-length-25
+    same-length-26
+    same-length-27
+    same-length-28
+    returns-4)

@@ -1,7 +1,5 @@
+use Rattle.serve.proofs.Laws.{text-bytes-are}
 use lib.Dec.{lit≤}
-use Rattle.spans.specs.Bytes.{zeros}
-use Rattle.looks.proofs.Laws.{no-names}
-use mathlib.Core.Path.{refl}
 use native.Mathlib.Omega.{arith}
 use borrow.Author.Needs.{needs}
 use Rattle.serve.proofs.serve.Statement.{statement}
@@ -37,14 +35,11 @@ slice-aggregate-answer-all-6 c = search needs
 slice-aggregate-answer-all-7 : tie.Need-slice-aggregate-answer-all-7
 slice-aggregate-answer-all-7 c = search needs
 
-slice-aggregate-answer-all-8 : tie.Need-slice-aggregate-answer-all-8
-slice-aggregate-answer-all-8 c = search needs
-
 answer-all-requires : tie.Need-answer-all-requires
-answer-all-requires c κs = (
-  record { for-state = search needs; for-work = search needs; for-out = search needs; for-frame = search needs; for-text = lit≤ tt },
-  no-names (zeros 199) refl (zeros 199) refl,
-)
+answer-all-requires c κs = record {
+  buffers = record { for-state = search needs; for-work = search needs; for-out = search needs; for-frame = search needs; for-text = lit≤ tt };
+  room = rw text-bytes-are (lit≤ tt);
+}
 
 returns : tie.Need-returns
 returns c = search needs
@@ -63,6 +58,5 @@ serve-spec =
     slice-aggregate-answer-all-5
     slice-aggregate-answer-all-6
     slice-aggregate-answer-all-7
-    slice-aggregate-answer-all-8
     answer-all-requires
     returns)
