@@ -110,6 +110,8 @@ fn doubt_in_pass(work: &mut [u8], out: &mut [u8], p: Progress, name: Name) -> Pr
     read_unread(work, out, q)
 }
 
+// A read that is in flight already may be older than what is doubted here. The resource is learned first, so its answer will be doubted
+// too, and one more read follows.
 pub fn doubt(work: &mut [u8], out: &mut [u8], p: Progress, name: Name) -> Progress
     requires { ⌜ HasState (now work) ⌝ }
     requires { ⌜ Named (name .bytes) ⌝ }
