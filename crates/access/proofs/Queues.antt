@@ -4,7 +4,7 @@ use native.Mathlib.Nat.{not-suc-le-zero, le-of-suc-le-suc}
 use native.Mathlib.Omega.{arith}
 use mathlib.Core.Path.{_≡_, refl, sym, ap, ap₂, _∙_, subst}
 use mathlib.Core.List.{List, [], _∷_}
-use mathlib.Core.Option.{Option, none, some, Option·none-ne-some}
+use mathlib.Core.Option.{none, some, Option·none-ne-some}
 use lib.ListN.{length, take, drop, getD}
 use lib.Dec.{T}
 use Rattle.format.specs.Format.{All, text as text-format}
@@ -14,7 +14,7 @@ use Rattle.tables.specs.declared.Place.the-variants.{Found, Missing}
 use Rattle.tables.proofs.Laws as tables
 use Rattle.lent.specs.Lent.{part}
 use Rattle.model.specs.Seam.{ResourceId}
-use Rattle.model.specs.State.{Map, Pending, Queue, SyncState}
+use Rattle.model.specs.State.{Map, Queue, SyncState}
 use Rattle.model.specs.Limits.{document01, max-id}
 use Rattle.model.specs.Maps.{by, by-name, map, get, keys}
 use Rattle.model.specs.Machine.{match_none:_some:_}

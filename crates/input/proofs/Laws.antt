@@ -1,16 +1,16 @@
 -- What the functions of this crate cite: each law's premises are what the callees ensure. Assumes nothing.
 use Prim.Native.Nat.{ℕ, zero, suc, _+_, _-_, _≤_, _<_}
 use native.Mathlib.Omega.{arith}
-use mathlib.Core.Path.{_≡_, refl, sym, ap, ap₂, _∙_, subst}
-use mathlib.Core.Bool.{Bool, true, false, cond, not}
+use mathlib.Core.Path.{_≡_, refl, sym, ap, ap₂, _∙_}
+use mathlib.Core.Bool.{Bool, true, false, not}
 use mathlib.Core.List.{List, [], _∷_, _++_, append-nil, append-assoc}
 use lib.ListN.{length, take, drop, length-drop, drop-of-length-le}
 use lib.Seq.{take-all, take-nil, drop-drop, length-take-le}
 use lib.Dec.{ltb}
 use borrow.Author.Tests.{lt-ltb, le-ltb, ltb-false}
 use Rattle.lines.specs.Lines.{line-length}
-use Rattle.input.specs.Input.{Taken, taken, Handed, is-empty, next-line, Reached, Splits}
-use Rattle.input.specs.Ready.{Ready, Takes, Reads, between}
+use Rattle.input.specs.Input.{Taken, taken, is-empty, next-line, Reached, Splits}
+use Rattle.input.specs.Ready.{Takes, Reads, between}
 use Rattle.input.specs.declared.Input.{Input}
 
 -- ---- a step in what is left of a chunk

@@ -1,16 +1,16 @@
 -- Of every input, however it is cut into chunks, the splitter hands out the lines, call by call; and what it cuts off a line changes no frame. Assumes nothing.
 use Prim.Native.Nat.{ℕ, zero, suc, _+_, _-_, _≤_, _<_}
 use native.Mathlib.Omega.{arith}
-use mathlib.Core.Path.{_≡_, refl, sym, ap, ap₂, _∙_, subst}
+use mathlib.Core.Path.{_≡_, refl, sym, ap, ap₂, _∙_}
 use mathlib.Core.Bool.{Bool, true, false, cond, not}
 use mathlib.Core.List.{List, [], _∷_, _++_, map, flatten, append-nil, append-assoc}
 use lib.ListN.{length, take, drop}
 use lib.Seq.{take-all, take-nil, take-append-le, drop-append-le, take-append-add, drop-append-add}
 use lib.Dec.{eqb, ltb}
-use borrow.Author.Tests.{lt-ltb, le-ltb, ltb-true, ltb-false, eqb-true, eqb-false}
+use borrow.Author.Tests.{lt-ltb, ltb-true, ltb-false}
 use Rattle.lines.specs.Lines.{line-length, frame-of}
 use Rattle.lines.proofs.Theorems.{cut-same}
-use Rattle.input.specs.Input.{led, lines-of, Taken, taken, Handed, is-empty, next-line, handed-out}
+use Rattle.input.specs.Input.{led, lines-of, taken, Handed, is-empty, next-line, handed-out}
 use Rattle.input.proofs.Laws.{step-whole, step-on}
 
 -- ---- where the first line ends

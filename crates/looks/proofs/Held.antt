@@ -1,14 +1,14 @@
 -- The state that a buffer holds: what the reading functions answer is asked of it, and what is seen of it may stand in a frame. Assumes nothing.
-use Prim.Native.Nat.{ℕ, _+_, _*_, _≤_, _<_}
+use Prim.Native.Nat.{ℕ, _≤_}
 use native.Mathlib.Omega.{arith}
-use mathlib.Core.Path.{_≡_, refl, sym, ap, _∙_}
+use mathlib.Core.Path.{_≡_, refl, ap, _∙_}
 use mathlib.Core.Bool.{Bool, true, false}
-use mathlib.Core.List.{List, [], _∷_, _++_}
+use mathlib.Core.List.{[], _∷_}
 use mathlib.Core.Option.{Option, none, some}
 use lib.ListN.{length, length-append}
 use lib.Dec.{eqb}
 use borrow.Author.Tests.{eqb-false}
-use Rattle.format.specs.Format.{Format, All, _⊗_, via, list, number}
+use Rattle.format.specs.Format.{All, _⊗_, via, list, number}
 use Rattle.format.proofs.SizeLaws.{Within, pair-within, list-within, number-within}
 use Rattle.lines.specs.Lines.{digits}
 use Rattle.lines.proofs.Laws.{length-digits}
@@ -30,7 +30,7 @@ use Rattle.model.proofs.Theorems.{states-exact}
 use Rattle.state.specs.Contract.{state-length}
 use Rattle.wellformed.proofs.States.{keeps-of, is-read}
 use Rattle.access.specs.Answers.{asked, Answers}
-use Rattle.looks.specs.Look.{counted, seen, recordF, queueF, seenF, held-state, look-line, seen-bytes, look-bytes}
+use Rattle.looks.specs.Look.{counted, seen, queueF, seenF, held-state, look-line, seen-bytes, look-bytes}
 
 -- ---- what is asked of a buffer
 

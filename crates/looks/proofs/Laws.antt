@@ -1,25 +1,25 @@
 -- What the functions of this crate cite: each law's premises are what the callees ensure. Assumes nothing.
 use Prim.Native.Nat.{ℕ, zero, suc, _+_, _-_, _/_, _%_, _≤_, _<_}
 use native.Mathlib.Omega.{arith}
-use mathlib.Core.Path.{_≡_, refl, sym, ap, ap₂, _∙_, subst}
+use mathlib.Core.Path.{_≡_, refl, sym, ap, ap₂, _∙_}
 use mathlib.Core.Bool.{Bool, true, false, not}
-use mathlib.Core.List.{List, [], _∷_, _++_, append-assoc}
+use mathlib.Core.List.{List, [], _∷_, _++_}
 use mathlib.Core.Option.{Option, none, some, Option·none-ne-some, Option·some-injective}
 use lib.ListN.{length, take, drop, set, length-drop, length-append, length-set, drop-of-length-le}
 use lib.Seq.{take-all, take-nil}
 use Rattle.format.specs.Format.{option, via, enum, _∣_, nothing, _⊗_, list, text, number}
 use Rattle.lines.specs.Lines.{digits, Puts}
-use Rattle.lines.proofs.Laws.{length-digits, digits-append, digits-place, puts-byte, puts-then}
+use Rattle.lines.proofs.Laws.{length-digits, digits-place, puts-byte, puts-then}
 use Rattle.numbers.specs.Big.{toBe}
 use Rattle.tables.proofs.Laws.{false-true}
 use Rattle.lent.specs.Lent.{part}
 use Rattle.frame.specs.Read.{kept}
 use Rattle.model.specs.Event.{Text, ProviderEvent}
-use Rattle.model.specs.Seam.{RequestId, ResourceId}
-use Rattle.model.specs.State.{Map, Queue, SyncState, new}
+use Rattle.model.specs.Seam.{ResourceId}
+use Rattle.model.specs.State.{Queue, new}
 use Rattle.model.specs.Limits.{document01, max-id, max-text}
 use Rattle.model.specs.Maps.{map, keys}
-use Rattle.model.specs.Formats.{Bytes, resourceId, shortText, u64, eventF}
+use Rattle.model.specs.Formats.{Bytes, shortText, u64, eventF}
 use Rattle.state.proofs.Orders.{to-digits}
 use Rattle.access.specs.Answers.{Answers, nth, numbered, record-bytes, queue-count}
 use Rattle.looks.specs.Look.{counted, seen, recordF, queueF, seenF, held-state, look-line}

@@ -5,7 +5,7 @@ use mathlib.Core.Path.{_≡_, refl, sym, ap, ap₂, _∙_, subst}
 use mathlib.Core.List.{List, [], _∷_, _++_, append-nil, append-assoc}
 use mathlib.Core.Option.{Option, none, some, Option·none-ne-some, Option·some-injective}
 use lib.ListN.{length, take, drop, length-append}
-use lib.Seq.{take-at, drop-at, take-append-le, take-take, length-take-le}
+use lib.Seq.{drop-at, take-append-le, take-take, length-take-le}
 use Rattle.format.specs.Format.{All, concatMap}
 use Rattle.lines.specs.Lines.{digits, Puts}
 use Rattle.lines.proofs.Laws.{length-digits, digits-append, digits-place, puts-none, puts-then}

@@ -1,6 +1,6 @@
 -- What the functions that write parts of the line ask and promise. Assumes nothing.
 use Prim.Native.Nat.{ℕ, _+_, _≤_}
-use mathlib.Core.List.{List, _∷_, _++_}
+use mathlib.Core.List.{_∷_}
 use lib.ListN.{length}
 use Rattle.lines.specs.Lines.{digits, Puts}
 use Rattle.model.specs.Formats.{Bytes}

@@ -1,10 +1,10 @@
 -- What the functions of this crate cite: each law's premises are what the callees ensure. Assumes nothing.
-use Prim.Native.Nat.{ℕ, zero, suc, _+_, _*_, _≤_, _<_}
+use Prim.Native.Nat.{ℕ, zero, suc, _+_, _*_, _≤_}
 use native.Mathlib.Omega.{arith}
-use mathlib.Core.Path.{_≡_, refl, sym, ap, ap₂, _∙_, subst}
-use mathlib.Core.Bool.{Bool, true, false, cond, not}
+use mathlib.Core.Path.{_≡_, refl, sym, ap, ap₂, _∙_}
+use mathlib.Core.Bool.{Bool, true, false, not}
 use mathlib.Core.List.{List, [], _∷_, _++_, append-nil, append-assoc}
-use lib.ListN.{length, take, drop, length-append}
+use lib.ListN.{length, length-append}
 use lib.Seq.{length-take-le}
 use Rattle.format.specs.Format.{via, enum, concatMap}
 use Rattle.lines.specs.Lines.{frame-of, digits, Puts}
@@ -20,7 +20,7 @@ use Rattle.looks.proofs.Held.{look-within, look-bytes-are}
 use Rattle.program.specs.Program.{line, answer-bytes, effect-lines, answer-text}
 use Rattle.program.specs.Answers.{Answered}
 use Rattle.program.specs.declared.Reply.{Reply}
-use Rattle.input.specs.Input.{next-line, handed-out, Reached, Splits, Handed}
+use Rattle.input.specs.Input.{next-line, handed-out, Splits}
 use Rattle.input.proofs.Laws.{nothing-left}
 use Rattle.serve.specs.Serves.{after-line, reply, after-lines, text-bytes, Replies, Replied, Served}
 

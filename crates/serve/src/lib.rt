@@ -1,6 +1,5 @@
 // Document 01's program over standard input and output: each line is answered before more is read.
 use libc::STDOUT_FILENO;
-ghost use Prim.Native.Nat.{_≤_};
 ghost use lib.ListN.{length};
 ghost use Rattle.serve.specs.Serves.{Lent, Replies, Replied, Served};
 

@@ -3,7 +3,6 @@ use Rattle.input.specs.Ready.{Reads, between}
 use lib.ListN.{length}
 use mathlib.Core.Path.{_≡_}
 use mathlib.Core.List.{[]}
-use native.Mathlib.Omega.{arith}
 use borrow.Author.Needs.{needs}
 use Rattle.input.proofs.read_line.Statement.{statement}
 use Rattle.input.proofs.read_line.Tie as tie

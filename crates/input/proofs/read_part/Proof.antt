@@ -1,6 +1,5 @@
 use Rattle.input.proofs.Laws.{reads-taken, reads-more, reads-end}
 use mathlib.Core.Path.{refl}
-use native.Mathlib.Omega.{arith}
 use borrow.Author.Needs.{needs}
 use Rattle.input.proofs.read_part.Statement.{statement}
 use Rattle.input.proofs.read_part.Tie as tie

@@ -1,7 +1,6 @@
 use Rattle.input.proofs.Laws.{takes-on, takes-whole}
 use lib.Seq.{length-take-le}
 use mathlib.Core.Path.{sym}
-use native.Mathlib.Omega.{arith}
 use borrow.Author.Needs.{needs}
 use Rattle.input.proofs.take_part.Statement.{statement}
 use Rattle.input.proofs.take_part.Tie as tie

@@ -1,5 +1,4 @@
 use Rattle.looks.proofs.Laws.{part-past, part-short, part-whole}
-use native.Mathlib.Omega.{arith}
 use borrow.Author.Needs.{needs}
 use Rattle.looks.proofs.part_of.Statement.{statement}
 use Rattle.looks.proofs.part_of.Tie as tie

@@ -1,12 +1,10 @@
 use denote.Ref.{now}
-use Rattle.lent.specs.Lent.{part}
 use Rattle.model.specs.Formats.{u64}
 use Rattle.model.specs.Maps.{keys}
 use Rattle.looks.proofs.Laws.{not-true, not-false, some-flight, no-flight, few-flights}
 use Rattle.looks.proofs.Lists.{Going, not-more, going-start, next-room, fewer, going-more, going-end}
 use Rattle.looks.specs.Look.{held-state}
 use Rattle.format.specs.Format.{list}
-use Rattle.lines.proofs.Laws.{digits-place}
 use Prim.Native.Nat.{_-_}
 use lib.ListN.{length}
 use mathlib.Core.Path.{_≡_, refl}

@@ -5,7 +5,6 @@ use Rattle.looks.proofs.Laws.{not-true, not-false, some-queue, no-queue
 use Rattle.looks.proofs.Lists.{Going, not-more, going-start, next-room, fewer, going-more, going-end}
 use Rattle.looks.specs.Look.{queueF, counted, held-state}
 use Rattle.format.specs.Format.{list}
-use Rattle.lines.proofs.Laws.{digits-place}
 use Prim.Native.Nat.{_-_}
 use lib.ListN.{length}
 use mathlib.Core.Path.{_≡_, refl}

@@ -4,7 +4,6 @@ use Rattle.looks.proofs.Laws.{not-true, not-false, some-record, no-reco
 use Rattle.looks.proofs.Lists.{Going, not-more, going-start, next-room, fewer, going-more, going-end}
 use Rattle.looks.specs.Look.{recordF, held-state}
 use Rattle.format.specs.Format.{list}
-use Rattle.lines.proofs.Laws.{digits-place}
 use Prim.Native.Nat.{_-_}
 use lib.ListN.{length}
 use mathlib.Core.Path.{_≡_, refl}

@@ -1,7 +1,6 @@
 use Rattle.serve.proofs.Laws.{replied}
 use lib.Seq.{length-take-le}
 use mathlib.Core.Path.{sym}
-use native.Mathlib.Omega.{arith}
 use borrow.Author.Needs.{needs}
 use Rattle.serve.proofs.answer.Statement.{statement}
 use Rattle.serve.proofs.answer.Tie as tie

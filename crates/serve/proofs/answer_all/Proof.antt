@@ -4,7 +4,6 @@ use lib.Seq.{length-take-le}
 use lib.ListN.{length}
 use Prim.Native.Nat.{_≤_}
 use mathlib.Core.Path.{_≡_, refl, sym}
-use native.Mathlib.Omega.{arith}
 use borrow.Author.Needs.{needs}
 use Rattle.serve.proofs.answer_all.Statement.{statement}
 use Rattle.serve.proofs.answer_all.Tie as tie

@@ -3,7 +3,6 @@ use Rattle.serve.proofs.Laws.{look-room, replies-alone, replies-look}
 use lib.ListN.{length}
 use Prim.Native.Nat.{_≤_}
 use mathlib.Core.Path.{_≡_}
-use native.Mathlib.Omega.{arith}
 use borrow.Author.Needs.{needs}
 use Rattle.serve.proofs.reply.Statement.{statement}
 use Rattle.serve.proofs.reply.Tie as tie

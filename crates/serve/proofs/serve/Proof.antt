@@ -1,6 +1,5 @@
 use Rattle.serve.proofs.Laws.{text-bytes-are}
 use lib.Dec.{lit≤}
-use native.Mathlib.Omega.{arith}
 use borrow.Author.Needs.{needs}
 use Rattle.serve.proofs.serve.Statement.{statement}
 use Rattle.serve.proofs.serve.Tie as tie
