@@ -2,18 +2,27 @@
 // alternative starts.
 use comparison::part;
 use comparison::same;
+ghost use mathlib.Core.Path.{_≡_};
+ghost use Prim.Native.Nat.{_+_};
+ghost use lib.ListN.{length};
+ghost use Rattle.phrases.specs.Rules.{endsStep, stepAt};
 
-fn ends(b: u8) -> bool {
-    match b {
-        b'|' => true,
-        b'/' => true,
-        b'\n' => true,
-        _ => false,
+fn ends(b: u8) -> bool
+    ensures { λ r. ⌜ r ≡ endsStep b ⌝ }
+{
+    if b == b'|' {
+        return true;
     }
+    if b == b'/' {
+        return true;
+    }
+    b == b'\n'
 }
 
 // Where the step, or the name, at a place ends.
-fn step_end(rules: &[u8], at: usize) -> usize {
+fn step_end(rules: &[u8], at: usize) -> usize
+    ensures { λ r. ⌜ r ≡ at + length (stepAt (now (rules .entry)) at) ⌝ }
+{
     let mut end = at;
     while end < rules.len() {
         if ends(rules[end]) {
@@ -25,7 +34,9 @@ fn step_end(rules: &[u8], at: usize) -> usize {
 }
 
 // The step at a place; nothing where a rule or an alternative ends.
-pub fn step(rules: &[u8], at: usize) -> &[u8] {
+pub fn step(rules: &[u8], at: usize) -> &[u8]
+    ensures { λ r. ⌜ now r ≡ stepAt (now (rules .entry)) at ⌝ }
+{
     part(rules, at, step_end(rules, at))
 }
 

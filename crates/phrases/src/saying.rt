@@ -3,6 +3,8 @@ use crate::reading::Found;
 use crate::writing::decimal;
 use crate::writing::quoted;
 use pens::Pen;
+ghost use lib.Dec.{T};
+ghost use Rattle.phrases.specs.Shown.{plainByte, plain, Shows};
 
 // Says what was found in the frame s, behind the phrase of the name `last`, or 0.
 pub fn say(
@@ -13,7 +15,10 @@ pub fn say(
     words: &[u8],
     found: Found,
     last: u8,
-) -> Pen {
+) -> Pen
+    requires { ⌜ T (plain (now phrase)) × T (plain (now words)) ⌝ }
+    ensures { λ r. ⌜ Shows (now (out .entry)) (now (out .exit)) pen r ⌝ }
+{
     let mut said = pen;
     let mut i = 0;
     while i < phrase.len() {
@@ -24,7 +29,10 @@ pub fn say(
 }
 
 // What stands for a mark; any other byte stands for itself.
-fn mark(pen: Pen, out: &mut [u8], s: &[u8], b: u8, words: &[u8], found: Found, last: u8) -> Pen {
+fn mark(pen: Pen, out: &mut [u8], s: &[u8], b: u8, words: &[u8], found: Found, last: u8) -> Pen
+    requires { ⌜ T (plainByte b) × T (plain (now words)) ⌝ }
+    ensures { λ r. ⌜ Shows (now (out .entry)) (now (out .exit)) pen r ⌝ }
+{
     match b {
         b'$' => pen.part(out, words),
         b'\'' => quoted(pen, out, frame::text_at(s, found.at, found.limit)),
@@ -38,7 +46,9 @@ fn mark(pen: Pen, out: &mut [u8], s: &[u8], b: u8, words: &[u8], found: Found, l
 }
 
 // The comma that is due before an item, unless the first words of one or nothing was said last.
-fn comma(pen: Pen, out: &mut [u8], last: u8) -> Pen {
+fn comma(pen: Pen, out: &mut [u8], last: u8) -> Pen
+    ensures { λ r. ⌜ Shows (now (out .entry)) (now (out .exit)) pen r ⌝ }
+{
     match last {
         0 => pen,
         b'>' => pen,
@@ -48,7 +58,9 @@ fn comma(pen: Pen, out: &mut [u8], last: u8) -> Pen {
 }
 
 // The dots before what is wrong.
-fn dots(pen: Pen, out: &mut [u8], last: u8) -> Pen {
+fn dots(pen: Pen, out: &mut [u8], last: u8) -> Pen
+    ensures { λ r. ⌜ Shows (now (out .entry)) (now (out .exit)) pen r ⌝ }
+{
     match last {
         0 => pen,
         b'>' => pen.part(out, b"... "),

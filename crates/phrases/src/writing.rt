@@ -1,92 +1,91 @@
-// Numbers in decimal and texts in quotes.
+// Numbers in decimal, and texts as they may be printed.
+use crate::visible::byte_at;
+use crate::visible::front;
+use libc::STDOUT_FILENO;
 use pens::Pen;
+ghost use mathlib.Core.Path.{_≡_};
+ghost use Prim.Native.Nat.{_≤_, _<_};
+ghost use lib.ListN.{length};
+ghost use Rattle.phrases.specs.Shown.{frontOf, Shown, Shows, Decimal};
 
-pub fn decimal(pen: Pen, out: &mut [u8], n: u64) -> Pen {
+// Writes to standard output, where nothing goes that could do harm to a terminal.
+pub fn print(bytes: &[u8])
+    requires { ⌜ Shown (now bytes) ⌝ }
+{
+    io::write_all(STDOUT_FILENO, bytes);
+}
+
+pub fn decimal(pen: Pen, out: &mut [u8], n: u64) -> Pen
+    ensures { λ r. ⌜ Decimal (now (out .entry)) (now (out .exit)) pen r n ⌝ }
+{
     let mut digits = [0u8; 20];
     let k = io::decimal(n, &mut digits);
     pen.part(out, &digits[..k])
 }
 
-// Bytes in quotes: text as it is, but for what would break a line.
-pub fn quoted(pen: Pen, out: &mut [u8], bytes: &[u8]) -> Pen {
-    let text = format::is_text(bytes);
-    let mut said = pen.byte(out, b'"');
-    let mut hidden = 0;
-    let mut i = 0;
-    while i < bytes.len() {
-        hidden = by_number(&bytes[i..], text, hidden);
-        said = show(said, out, bytes[i], hidden);
-        i += 1;
-    }
+// Bytes in quotes.
+pub fn quoted(pen: Pen, out: &mut [u8], bytes: &[u8]) -> Pen
+    ensures { λ r. ⌜ Shows (now (out .entry)) (now (out .exit)) pen r ⌝ }
+{
+    let open = pen.byte(out, b'"');
+    let said = shown(open, out, bytes, true);
     said.byte(out, b'"')
 }
 
-// How many bytes from here on are shown by their numbers, where so many were from the byte before on.
-fn by_number(rest: &[u8], text: bool, before: usize) -> usize {
-    if 1 < before {
-        return before - 1;
+// Bytes as text: visible characters as they are, any other byte by its number; within quotes also a quote and a backslash.
+pub fn shown(pen: Pen, out: &mut [u8], bytes: &[u8], quotes: bool) -> Pen
+    ensures { λ r. ⌜ Shows (now (out .entry)) (now (out .exit)) pen r ⌝ }
+{
+    let mut said = pen;
+    let mut i = 0;
+    while i < bytes.len() {
+        let n = as_it_is(&bytes[i..], quotes);
+        said = put(said, out, &bytes[i..], n);
+        i += taken(n);
     }
-    if text {
-        return unprinted(rest);
-    }
-    if byte_at(rest, 0) < 0x80 {
-        return unprinted(rest);
-    }
-    1
+    said
 }
 
-fn show(pen: Pen, out: &mut [u8], b: u8, hidden: usize) -> Pen {
-    if hidden == 0 {
-        return pen.byte(out, b);
+// How many bytes of a text's rest are written as they are; 0 where its first byte is written by its number.
+fn as_it_is(rest: &[u8], quotes: bool) -> usize
+    ensures { λ r. ⌜ (0 < r → r ≡ frontOf (now (rest .entry))) ⌝ }
+{
+    let b = byte_at(rest, 0);
+    if quotes {
+        if b == b'"' {
+            return 0;
+        }
+        if b == b'\\' {
+            return 0;
+        }
     }
+    front(rest)
+}
+
+fn put(pen: Pen, out: &mut [u8], rest: &[u8], n: usize) -> Pen
+    requires { ⌜ (0 < n → n ≡ frontOf (now rest)) ⌝ }
+    ensures { λ r. ⌜ Shows (now (out .entry)) (now (out .exit)) pen r ⌝ }
+{
+    if n == 0 {
+        return by_number(pen, out, byte_at(rest, 0));
+    }
+    pen.part(out, &rest[..n])
+}
+
+fn by_number(pen: Pen, out: &mut [u8], b: u8) -> Pen
+    ensures { λ r. ⌜ Shows (now (out .entry)) (now (out .exit)) pen r ⌝ }
+{
     let mut digits = [0u8; 16];
     let k = io::hex(b as u64, 2, &mut digits);
     pen.part(out, b"\\x").part(out, &digits[..k])
 }
 
-// How many bytes the character at the front takes where it is not to be printed as it is: a control character, a line break, a quote or a
-// backslash; 0 for any other.
-fn unprinted(rest: &[u8]) -> usize {
-    let b = byte_at(rest, 0);
-    if b < 0x20 {
+// How many bytes are behind a turn.
+fn taken(n: usize) -> usize
+    ensures { λ r. ⌜ (1 ≤ r) × (n ≤ r) × (0 < n → r ≡ n) × (n ≡ 0 → r ≡ 1) ⌝ }
+{
+    if n == 0 {
         return 1;
     }
-    match b {
-        b'"' => 1,
-        b'\\' => 1,
-        0x7f => 1,
-        0xc2 => unprinted_latin(rest),
-        0xe2 => unprinted_separator(rest),
-        _ => 0,
-    }
-}
-
-// U+0080 to U+009F.
-fn unprinted_latin(rest: &[u8]) -> usize {
-    if byte_at(rest, 1) < 0xa0 {
-        return 2;
-    }
-    0
-}
-
-// U+2028 and U+2029, which end lines and paragraphs.
-fn unprinted_separator(rest: &[u8]) -> usize {
-    if byte_at(rest, 1) != 0x80 {
-        return 0;
-    }
-    let last = byte_at(rest, 2);
-    if last == 0xa8 {
-        return 3;
-    }
-    if last == 0xa9 {
-        return 3;
-    }
-    0
-}
-
-fn byte_at(rest: &[u8], i: usize) -> u8 {
-    if i < rest.len() {
-        return rest[i];
-    }
-    0
+    n
 }
