@@ -1,6 +1,7 @@
 // The grammar of what is said.
 use crate::walk::follow;
 use pens::Pen;
+ghost use Rattle.phrases.specs.Shown.{Shows};
 
 // Says bytes by the rule of this name.
 //
@@ -16,7 +17,9 @@ use pens::Pen;
 // lead nowhere. The phrases with letters, from M on, say what else is wrong. Their marks:
 //   $  the step's words     '  the text     #  the number     %  the limit     @  the place in the bytes
 //   ^  the comma that is due     !  the dots before what is wrong
-pub fn said(pen: Pen, out: &mut [u8], bytes: &[u8], name: &[u8]) -> Pen {
+pub fn said(pen: Pen, out: &mut [u8], bytes: &[u8], name: &[u8]) -> Pen
+    ensures { λ r. ⌜ Shows (now (out .entry)) (now (out .exit)) pen r ⌝ }
+{
     let rules = b"
 .|^$
 >|^$

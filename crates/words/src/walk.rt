@@ -7,6 +7,8 @@ use pens::Pen;
 use phrases::Found;
 use phrases::rule;
 use phrases::step;
+ghost use lib.Dec.{T};
+ghost use Rattle.phrases.specs.Shown.{plain, Shows};
 
 // More than the longest walk has: an effect with 255 conflicts and 255 refused fields takes about 30,000.
 const TURNS: u32 = 65536;
@@ -21,7 +23,10 @@ struct Walk {
 }
 
 // Says a frame by the rule of this name.
-pub fn follow(pen: Pen, out: &mut [u8], frame: &[u8], rules: &[u8], name: &[u8]) -> Pen {
+pub fn follow(pen: Pen, out: &mut [u8], frame: &[u8], rules: &[u8], name: &[u8]) -> Pen
+    requires { ⌜ T (plain (now rules)) ⌝ }
+    ensures { λ r. ⌜ Shows (now (out .entry)) (now (out .exit)) pen r ⌝ }
+{
     let mut walk = Walk {
         route: route::to(rule(rules, name)),
         at: 0,
@@ -41,7 +46,10 @@ pub fn follow(pen: Pen, out: &mut [u8], frame: &[u8], rules: &[u8], name: &[u8])
 }
 
 // One step, or the end of a rule.
-fn turn(walk: Walk, out: &mut [u8], frame: &[u8], rules: &[u8]) -> Walk {
+fn turn(walk: Walk, out: &mut [u8], frame: &[u8], rules: &[u8]) -> Walk
+    requires { ⌜ T (plain (now rules)) ⌝ }
+    ensures { λ r. ⌜ Shows (now (out .entry)) (now (out .exit)) (walk .pen) (r .pen) ⌝ }
+{
     let route = walk.route;
     let pen = walk.pen;
     let text = step(rules, route.step);
@@ -70,7 +78,10 @@ fn turn(walk: Walk, out: &mut [u8], frame: &[u8], rules: &[u8]) -> Walk {
 }
 
 // The phrase of this name; nothing for 0.
-fn phrase(rules: &[u8], name: u8) -> &[u8] {
+fn phrase(rules: &[u8], name: u8) -> &[u8]
+    requires { ⌜ T (plain (now rules)) ⌝ }
+    ensures { λ r. ⌜ T (plain (now r)) ⌝ }
+{
     if name == 0 {
         return &rules[..0];
     }
