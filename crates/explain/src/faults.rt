@@ -1,6 +1,7 @@
 // Why a line holds no bytes. Its columns are counted from 1.
 use lines::MAX_DIGITS;
 use pens::Pen;
+ghost use Rattle.phrases.specs.Shown.{Shows};
 
 fn is_digit(c: u8) -> bool {
     if c < b'0' {
@@ -28,7 +29,9 @@ fn digits_end(line: &[u8]) -> usize {
 }
 
 // The first thing that is wrong.
-pub fn fault(pen: Pen, text: &mut [u8], line: &[u8]) -> Pen {
+pub fn fault(pen: Pen, text: &mut [u8], line: &[u8]) -> Pen
+    ensures { λ r. ⌜ Shows (now (text .entry)) (now (text .exit)) pen r ⌝ }
+{
     if line.len() == 0 {
         return pen.part(text, b"the line is empty");
     }
@@ -43,7 +46,9 @@ pub fn fault(pen: Pen, text: &mut [u8], line: &[u8]) -> Pen {
     phrases::decimal(odd, text, at as u64)
 }
 
-fn no_digit(pen: Pen, text: &mut [u8], at: usize, c: u8) -> Pen {
+fn no_digit(pen: Pen, text: &mut [u8], at: usize, c: u8) -> Pen
+    ensures { λ r. ⌜ Shows (now (text .entry)) (now (text .exit)) pen r ⌝ }
+{
     let column = phrases::decimal(pen.part(text, b"column "), text, after(at));
     let found: [u8; 1] = [c];
     let shown = phrases::quoted(column.part(text, b": "), text, &found);

@@ -3,8 +3,9 @@
 use crate::faults;
 use comparison::part;
 use frame::Parsed;
-use libc::STDOUT_FILENO;
 use pens::Pen;
+ghost use lib.Dec.{T};
+ghost use Rattle.phrases.specs.Shown.{plain, Ready};
 
 pub fn explain(state: &mut [u8], number: u64, line: &[u8]) {
     let mut frame = [0u8; 8192];
@@ -19,19 +20,24 @@ pub fn explain(state: &mut [u8], number: u64, line: &[u8]) {
 }
 
 // The first words of a printed line.
-fn head(text: &mut [u8], number: u64, what: &[u8]) -> Pen {
+fn head(text: &mut [u8], number: u64, what: &[u8]) -> Pen
+    requires { ⌜ T (plain (now what)) ⌝ }
+    ensures { λ r. ⌜ Ready (now (text .exit)) r ⌝ }
+{
     let start = Pen { at: 0, ok: true };
     let counted = phrases::decimal(start.part(text, b"line "), text, number);
     counted.part(text, b", ").part(text, what).part(text, b": ")
 }
 
-fn print(text: &mut [u8], pen: Pen) {
+fn print(text: &mut [u8], pen: Pen)
+    requires { ⌜ Ready (now text) pen ⌝ }
+{
     let end = pen.byte(text, b'\n');
     if !end.ok {
-        io::write_all(STDOUT_FILENO, b"(a line that is too long to print)\n");
+        phrases::print(b"(a line that is too long to print)\n");
         return;
     }
-    io::write_all(STDOUT_FILENO, part(text, 0, end.at));
+    phrases::print(part(text, 0, end.at));
 }
 
 fn no_digits(number: u64, line: &[u8]) {
@@ -49,7 +55,9 @@ fn input(number: u64, frame: &[u8]) {
     print(&mut text, end);
 }
 
-fn verdict(text: &mut [u8], number: u64, frame: &[u8]) -> Pen {
+fn verdict(text: &mut [u8], number: u64, frame: &[u8]) -> Pen
+    ensures { λ r. ⌜ Ready (now (text .exit)) r ⌝ }
+{
     let parsed = frame::parse(frame);
     match parsed {
         Parsed::NoFrame => head(text, number, b"no frame"),
