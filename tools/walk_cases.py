@@ -1,5 +1,5 @@
 #!/usr/bin/env python3
-"""Writes the field engineers' four walks, the list that the program `checklist` runs: walk_cases.py FOLDER
+"""Writes the field engineers' four walks and one with a refused frame, the list that the program `checklist` runs: walk_cases.py FOLDER
 
 FOLDER/stdin gets the walks in the form that README.md says under "A walk of your own". crates/checklist has what this writes. What the program prints of
 them, FOLDER/stdout, this does not write: whether a new walk's conditions are the right ones is to be found in document 01, and not by running it.
@@ -7,7 +7,7 @@ them, FOLDER/stdout, this does not write: whether a new walk's conditions are th
 import usage
 from frames import *
 
-LIST = ["# The field engineers' four walks. README.md, \"A walk of your own\", says what the lines are. Above each frame stands what happens."]
+LIST = ["# The field engineers' four walks, and one with a refused frame. README.md, \"A walk of your own\", says what the lines are. Above each frame stands what happens."]
 
 # ---- the one booking of the walks, "bay 1"
 
@@ -32,6 +32,10 @@ def walk(title, expected):
 
 def step(words, frame):
     LIST.extend(["# " + words, "frame " + frame.hex()])
+
+def refused(number):
+    """The frame before it is refused with this number."""
+    LIST.append(f"refused {number}")
 
 def mark():
     LIST.append("mark")
@@ -79,6 +83,7 @@ NO_CURSOR = "no_cursor"
 
 # The effects that are looked for.
 SYNCED = b"\1\0"
+def listing_asked(request): return b"\0" + number(request) + b"\0\0"
 def read_asked(request): return b"\0" + number(request) + b"\1" + RESOURCE
 def update_asked(request, booking): return b"\0" + number(request) + b"\4" + RESOURCE + some(booking.revision) + booking.event()
 def applied(id, conflicts=(), refused=()): return b"\1\2" + text(id) + several(conflicts) + several(refused)
@@ -188,7 +193,17 @@ mark()
 until("the same move again, until 6000, which is now", b"too late", 6000)
 check('"too late" is told Expired at once, and nothing else happens', told("too late"), sent(expired(b"too late")), writes(0))
 
-LIST.extend(["", "all four walks hold."])
+# ---- (e)
+
+walk("(e) Mistype a digit of a frame",
+     "the frame is refused with 3, and nothing comes of it: the right one is taken as if it had not been there.")
+step("a sync, but its digits are 05 in place of 00", b"\5")
+refused(3)
+check("nothing is in flight, and there is no cursor", in_flight(0), NO_CURSOR)
+sync("the right digits")
+check("one listing is asked for", sent(listing_asked(0)), in_flight(1))
+
+LIST.extend(["", "all five walks hold."])
 
 [place] = usage.words(__doc__, usage.folder)
 open(place + "/stdin", "w").write("".join(line + "\n" for line in LIST))

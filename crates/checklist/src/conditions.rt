@@ -10,7 +10,7 @@ use comparison::part;
 use comparison::same;
 
 // Whether the number is n, in decimal digits.
-fn is(n: u64, number: &[u8]) -> bool {
+pub fn is(n: u64, number: &[u8]) -> bool {
     let mut digits = [0u8; 20];
     let k = io::decimal(n, &mut digits);
     same(&digits[..k], number)

@@ -34,6 +34,8 @@ pub const CURSOR: u8 = 13;
 
 pub const NO_CURSOR: u8 = 14;
 
+pub const REFUSED: u8 = 15;
+
 // The place of a word among these lines, or the number of lines.
 fn place(names: &[u8], word: &[u8]) -> u8
     requires { ⌜ length (now names) ≤ 65536 ⌝ }
@@ -56,6 +58,6 @@ pub fn of(line: &[u8]) -> u8 {
         return NOTE;
     }
     let names =
-        b"#\nwalk\nexpected\nframe\nmark\ncheck\nall\ntold\nsent\nwritten\nwaits\nin_flight\nrecord\ncursor\nno_cursor";
+        b"#\nwalk\nexpected\nframe\nmark\ncheck\nall\ntold\nsent\nwritten\nwaits\nin_flight\nrecord\ncursor\nno_cursor\nrefused";
     place(names, split::first(line))
 }

@@ -1,6 +1,6 @@
 // The field engineers' walks, run on the engine. The list on standard input (tools/walk_cases.py writes crates/checklist/stdin; at most 64 KiB)
 // has lines of the kinds that README.md tells under "A walk of your own".
-// A condition that is not met, and a line that is none of these, is printed, and its walk does not hold.
+// A condition that is not met, a refusal that no line expects, and a line that is none of these are printed, and the walk does not hold; nor does one without a check.
 mod conditions;
 mod counting;
 mod kinds;
@@ -27,9 +27,21 @@ fn condition(state: &State, log: &Log, walk: Walk, line: &[u8]) -> Walk {
 // Handles a line of the list.
 fn one(state: &mut State, log: &mut Log, before: Walk, line: &[u8]) -> Walk {
     let rest = split::rest(line);
+    let kind = kinds::of(line);
+    if kind == kinds::NOTE {
+        return before;
+    }
+    if kind == kinds::REFUSED {
+        return before.opened().expects(line, rest);
+    }
+    act(state, log, before.settled(), line)
+}
+
+// Does what a line says that is neither passed over nor expects a refusal.
+fn act(state: &mut State, log: &mut Log, before: Walk, line: &[u8]) -> Walk {
+    let rest = split::rest(line);
     let walk = before.opened();
     match kinds::of(line) {
-        kinds::NOTE => before,
         kinds::WALK => walk::begin(state, before, rest),
         kinds::EXPECTED => {
             print::line(b"Expected: ", rest);

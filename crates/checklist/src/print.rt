@@ -1,20 +1,50 @@
 // What the program prints.
 use comparison::part;
-use libc::STDOUT_FILENO;
 use pens::Pen;
+ghost use lib.Dec.{T};
+ghost use Rattle.phrases.specs.Shown.{plain, Ready, Shows};
 
-pub fn show(bytes: &[u8]) {
-    io::write_all(STDOUT_FILENO, bytes);
+// Room for a line's words with every byte by its number, and for what stands around them.
+const LINE: usize = 262208;
+
+pub fn show(words: &[u8])
+    requires { ⌜ T (plain (now words)) ⌝ }
+{
+    phrases::print(words);
 }
 
-pub fn line(head: &[u8], words: &[u8]) {
-    show(head);
-    show(words);
-    show(b"\n");
+fn all(text: &[u8], pen: Pen)
+    requires { ⌜ Ready (now text) pen ⌝ }
+{
+    if !pen.ok {
+        show(b"    (too long to print)\n");
+        return;
+    }
+    phrases::print(part(text, 0, pen.at));
+}
+
+// Words of the list behind words of the program. No escape sequence in a list reaches a terminal.
+pub fn line(head: &[u8], words: &[u8])
+    requires { ⌜ T (plain (now head)) ⌝ }
+{
+    let mut text = [0u8; LINE];
+    let end = put_line(&mut text, head, words);
+    all(&text, end);
+}
+
+fn put_line(text: &mut [u8], head: &[u8], words: &[u8]) -> Pen
+    requires { ⌜ T (plain (now head)) ⌝ }
+    ensures { λ r. ⌜ Ready (now (text .exit)) r ⌝ }
+{
+    let start = Pen { at: 0, ok: true };
+    let said = phrases::shown(start.part(text, head), text, words, false);
+    said.byte(text, b'\n')
 }
 
 // The effects in words, each on a line of its own.
-fn put_effects(pen: Pen, text: &mut [u8], effects: &[u8]) -> Pen {
+fn put_effects(pen: Pen, text: &mut [u8], effects: &[u8]) -> Pen
+    ensures { λ r. ⌜ Shows (now (text .entry)) (now (text .exit)) pen r ⌝ }
+{
     let mut p = pen;
     let mut at = 0;
     while at < effects.len() {
@@ -31,15 +61,18 @@ fn put_effects(pen: Pen, text: &mut [u8], effects: &[u8]) -> Pen {
 
 // A step: the frame in digits and in words, the answer and the effects.
 pub fn step(digits: &[u8], frame: &[u8], code: u8, effects: &[u8]) {
-    let mut text = [0u8; 262144];
-    let input = words::input(Pen { at: 0, ok: true }, &mut text, frame);
-    let head = input.part(&mut text, b"\n    ");
-    let answer = words::answer(head, &mut text, code);
-    let end = put_effects(answer, &mut text, effects);
+    let mut text = [0u8; LINE];
     line(b"  frame ", digits);
-    if end.ok {
-        line(b"    ", part(&text, 0, end.at));
-    } else {
-        show(b"    (too long to print)\n");
-    }
+    let end = put_step(&mut text, frame, code, effects);
+    all(&text, end);
+}
+
+fn put_step(text: &mut [u8], frame: &[u8], code: u8, effects: &[u8]) -> Pen
+    ensures { λ r. ⌜ Ready (now (text .exit)) r ⌝ }
+{
+    let start = Pen { at: 0, ok: true };
+    let input = words::input(start.part(text, b"    "), text, frame);
+    let answer = words::answer(input.part(text, b"\n    "), text, code);
+    let told = put_effects(answer, text, effects);
+    told.byte(text, b'\n')
 }

@@ -1,4 +1,5 @@
 // How far a walk has come, and what its lines do to it.
+use crate::conditions;
 use crate::print;
 use crate::split;
 use comparison::part;
@@ -13,11 +14,16 @@ pub type Log = [u8; frame::MAX_EFFECTS];
 pub struct Walk {
     // where the effects end in the log
     pub log: Pen,
+    // the number with which the last frame was refused, until a line expects it; 0 for none
+    pub refused: u8,
     // whether a condition stands since the last check, and whether all of them are met
     pub asked: bool,
     pub met: bool,
-    // whether the walk holds so far, and whether all before it do
+    // whether the walk has a check, and whether it holds so far
+    pub checked: bool,
     pub holds: bool,
+    // whether there are walks before it, and whether all of them hold
+    pub some: bool,
     pub all: bool,
     // whether its verdict is still to be printed
     pub open: bool,
@@ -27,9 +33,12 @@ pub struct Walk {
 pub fn none() -> Walk {
     Walk {
         log: Pen { at: 0, ok: true },
+        refused: 0,
         asked: false,
         met: true,
+        checked: false,
         holds: true,
+        some: false,
         all: true,
         open: false,
     }
@@ -45,6 +54,25 @@ impl Walk {
     pub fn logged(mut self, log: Pen) -> Walk {
         self.log = log;
         self
+    }
+
+    // A refusal that no line expects.
+    pub fn settled(mut self) -> Walk {
+        if self.refused == 0 {
+            return self;
+        }
+        print::show(b"  does NOT hold: the frame is refused, and no line 'refused' expects it\n");
+        self.refused = 0;
+        self.holds = false;
+        self
+    }
+
+    // A refusal is expected, with this number.
+    pub fn expects(mut self, line: &[u8], number: &[u8]) -> Walk {
+        let code = self.refused;
+        self.refused = 0;
+        let met = 0 < code && conditions::is(code as u64, number);
+        self.answered(line, met)
     }
 
     // A condition is met or not.
@@ -68,18 +96,26 @@ impl Walk {
         }
         self.asked = false;
         self.met = true;
+        self.checked = true;
         self.holds = self.holds && holds;
         self
     }
 
-    // The walk's end.
+    // The walk's end. A walk that checks nothing does not hold.
     fn close(self) -> Walk {
         let mut next = none();
-        next.all = self.all && self.holds;
+        next.some = self.some;
+        next.all = self.all;
         if !self.open {
             return next;
         }
-        if self.holds {
+        let holds = self.checked && self.holds;
+        next.some = true;
+        next.all = self.all && holds;
+        if !self.checked {
+            print::show(b"  no line 'check' stands in this walk\n");
+        }
+        if holds {
             print::show(b"The walk holds.\n\n");
         } else {
             print::show(b"The walk does NOT hold.\n\n");
@@ -98,7 +134,9 @@ pub fn begin(state: &mut State, before: Walk, title: &[u8]) -> Walk {
 // The list's end.
 pub fn end(before: Walk, words: &[u8]) -> Walk {
     let walk = before.close();
-    if walk.all {
+    if !walk.some {
+        print::show(b"NOT all walks hold: the list has none.\n");
+    } else if walk.all {
         print::line(b"All ", words);
     } else {
         print::line(b"NOT all ", words);
@@ -106,14 +144,17 @@ pub fn end(before: Walk, words: &[u8]) -> Walk {
     walk
 }
 
-// Hands a frame to the engine, prints what comes of it, and keeps the effects in the log.
-fn hand(state: &mut State, log: &mut Log, pen: Pen, digits: &[u8], frame: &[u8]) -> Pen {
+// Hands a frame to the engine, prints what comes of it, and keeps the answer and the effects.
+fn hand(state: &mut State, log: &mut Log, before: Walk, digits: &[u8], frame: &[u8]) -> Walk {
     let mut work = [0u8; engine::STATE];
     let mut out = [0u8; frame::MAX_EFFECTS];
     let a = engine::step(state, &mut work, &mut out, frame);
     let effects = part(&out, 0, a.length);
     print::step(digits, frame, a.code, effects);
-    pen.part(log, effects)
+    let pen = before.log;
+    let mut walk = before.logged(pen.part(log, effects));
+    walk.refused = a.code;
+    walk
 }
 
 pub fn step(state: &mut State, log: &mut Log, before: Walk, line: &[u8]) -> Walk {
@@ -124,8 +165,8 @@ pub fn step(state: &mut State, log: &mut Log, before: Walk, line: &[u8]) -> Walk
         print::line(b"  bad digits: ", digits);
         return before.answered(line, false);
     }
-    let pen = hand(state, log, before.log, digits, part(&frame, 0, n));
-    let walk = before.logged(pen);
+    let walk = hand(state, log, before, digits, part(&frame, 0, n));
+    let pen = walk.log;
     if pen.ok {
         return walk;
     }
