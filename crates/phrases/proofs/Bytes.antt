@@ -4,8 +4,8 @@ use native.Mathlib.Omega.{arith}
 use mathlib.Core.Path.{_≡_, refl, sym, _∙_}
 use mathlib.Core.List.{[], _∷_}
 use mathlib.Core.Bool.{Bool, true, false, not, cond, _&&_, _||_, false≢true}
-use lib.Dec.{T, leb, ltb, eqb}
-use borrow.Author.Tests.{le-leb, lt-ltb, le-ltb, eqb-true, eqb-false, leb-true}
+use lib.Dec.{leb, ltb, eqb}
+use borrow.Author.Tests.{le-leb, lt-ltb, le-ltb, eqb-true, eqb-false}
 use Rattle.format.specs.Utf8.{following, after, chars, isText}
 use Rattle.io.specs.Digits.{glyph}
 use Rattle.phrases.specs.Shown.{widthOf, isCharacter, isHidden, isVisible, plainByte}

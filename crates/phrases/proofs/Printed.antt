@@ -2,7 +2,7 @@
 use Prim.Native.Nat.{ℕ, zero, suc, _+_, _-_, _/_, _%_, _≤_, _<_}
 use native.Mathlib.Omega.{arith}
 use native.Mathlib.Nat.{mod-lt}
-use mathlib.Core.Path.{_≡_, refl, sym, ap, _∙_, subst}
+use mathlib.Core.Path.{_≡_, refl, sym, ap, _∙_}
 use mathlib.Core.List.{List, [], _∷_, _++_, append-assoc, append-nil}
 use mathlib.Core.Bool.{Bool, true, false, not, cond, _&&_, _||_, false≢true, and-true, and-false, or-false}
 use mathlib.Core.Option.{Option, none, some}
@@ -14,7 +14,7 @@ use Rattle.format.specs.Utf8.{Range, following, after, chars, isText}
 use Rattle.comparison.specs.Bytes.{span}
 use Rattle.io.specs.Digits.{glyph, digits}
 use Rattle.pens.specs.declared.Pen.{Pen}
-use Rattle.pens.specs.Writing.{Stands, Wrote}
+use Rattle.pens.specs.Writing.{Wrote}
 use Rattle.phrases.specs.Shown.{widthOf, isCharacter, isHidden, isVisible, frontOf, Shown, plainByte, plain, Ready, Shows, Decimal}
 use Rattle.phrases.specs.Shown.Shown.{no-more, line-feed, one-more}
 use Rattle.phrases.proofs.Bytes.{and-left, and-right, ascii-visible, low-hidden, none-visible, width-1, glyph-plain}

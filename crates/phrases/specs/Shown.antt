@@ -1,10 +1,10 @@
 -- What may be printed: line feeds, printable ASCII, and whole UTF-8 characters that are no control characters and end no line. Assumes nothing.
-use Prim.Native.Nat.{ℕ, zero, suc, _≤_}
+use Prim.Native.Nat.{ℕ, suc, _≤_}
 use mathlib.Core.Path.{_≡_}
 use mathlib.Core.List.{List, [], _∷_, _++_}
 use mathlib.Core.Option.{none, some}
-use mathlib.Core.Bool.{Bool, true, false, cond, not, _&&_, _||_}
-use lib.Dec.{T, leb, ltb, eqb}
+use mathlib.Core.Bool.{Bool, true, cond, not, _&&_, _||_}
+use lib.Dec.{T, ltb, eqb}
 use lib.ListN.{length, getD, take}
 use Rattle.format.specs.Utf8.{range, inside, following, isText}
 use Rattle.io.specs.Digits.{Fewest, digits}

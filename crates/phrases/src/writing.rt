@@ -5,7 +5,6 @@ use libc::STDOUT_FILENO;
 use pens::Pen;
 ghost use mathlib.Core.Path.{_≡_};
 ghost use Prim.Native.Nat.{_≤_, _<_};
-ghost use lib.ListN.{length};
 ghost use Rattle.phrases.specs.Shown.{frontOf, Shown, Shows, Decimal};
 
 // Writes to standard output, where nothing goes that could do harm to a terminal.

@@ -1,5 +1,5 @@
 use denote.Ref.{now}
-use mathlib.Core.Path.{_≡_, ap, _∙_}
+use mathlib.Core.Path.{_∙_}
 use borrow.Author.Needs.{needs}
 use Rattle.phrases.proofs.Steps.{step-span}
 use Rattle.phrases.proofs.rules.step.Statement.{statement}

@@ -1,6 +1,6 @@
 use denote.Ref.{now}
 use lib.Seq.{length-take-le}
-use mathlib.Core.Path.{_≡_, sym, ap, _∙_}
+use mathlib.Core.Path.{sym, ap, _∙_}
 use Rattle.phrases.specs.Shown.{widthOf}
 use Rattle.phrases.proofs.Printed.{front-low, front-ascii, front-short, front-taken}
 use borrow.Author.Needs.{needs}

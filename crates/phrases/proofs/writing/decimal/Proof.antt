@@ -1,4 +1,3 @@
-use mathlib.Core.Path.{sym, subst}
 use Rattle.pens.proofs.Laws.{wrote-as}
 use borrow.Author.Needs.{needs}
 use Rattle.phrases.proofs.writing.decimal.Statement.{statement}
