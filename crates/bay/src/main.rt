@@ -1,4 +1,4 @@
-// Document 01's program: frames on standard input, a line each in hexadecimal; answers on standard output.
+// The program of docs/FRAMES.md, "The program's lines": frames on standard input, a line each in hexadecimal; answers on standard output.
 fn main() {
     serve::serve(false);
 }

@@ -1,4 +1,4 @@
-// What a log of frames says, and what the engine answers to it: standard input as document 01's program reads it, one frame a line in
+// What a log of frames says, and what the engine answers to it: standard input as `bay` reads it, one frame a line in
 // lowercase hexadecimal, from a fresh state; each frame, each answer and each effect in words.
 mod faults;
 mod input;

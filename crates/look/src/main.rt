@@ -1,4 +1,4 @@
-// Document 01's program, and after each answer a line of what can be read of the state.
+// What `bay` prints, and after each answer a line of what can be read of the state.
 fn main() {
     serve::serve(true);
 }

@@ -1,4 +1,4 @@
--- Document 01, "The entry": what a call of `step` answers and what it leaves in the lent buffers, for all bytes. Assumes nothing.
+-- docs/FRAMES.md, "The entry": what a call of `step` answers and what it leaves in the lent buffers, for all bytes. Assumes nothing.
 use Prim.Native.Nat.{ℕ, _-_}
 use mathlib.Core.Path.{_≡_}
 use mathlib.Core.List.{[], _++_}

@@ -1,4 +1,4 @@
--- Document 01's program: what it prints for a line, and the state's bytes that it goes on with. Assumes nothing.
+-- The program of docs/FRAMES.md, "The program's lines": what it prints for a line, and the state's bytes that it goes on with. Assumes nothing.
 use Prim.Native.Nat.{ℕ}
 use mathlib.Core.List.{List, [], _∷_, _++_}
 use lib.ListN.{length}

@@ -1,4 +1,4 @@
-// Document 01's program on lent buffers: the answer to one line.
+// The program of docs/FRAMES.md, "The program's lines", on lent buffers: the answer to one line.
 ghost use mathlib.Core.Path.{_≡_};
 ghost use Prim.Native.Nat.{_+_, _*_, _-_, _/_, _%_, _≤_, _<_};
 ghost use lib.ListN.{length, take, drop};

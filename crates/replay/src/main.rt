@@ -1,7 +1,7 @@
 // Stored runs of frames, answered and compared with the published Rust's answers. The list on standard input (tools/replay_cases.py
 // writes it, at most a mebibyte) has three kinds of lines:
 //   #NAME    starts a run from a fresh state
-//   >LINE    a line for document 01's program: a frame's digits, or what else may stand there
+//   >LINE    a line for the program `bay`: a frame's digits, or what else may stand there
 //   others   the lines of the published engine's answer to it
 // For each run the program prints how many frames it has, and how many of them were answered otherwise.
 mod tally;

@@ -1,4 +1,4 @@
-// Document 01's program over standard input and output: each line is answered before more is read.
+// The program of docs/FRAMES.md, "The program's lines", over standard input and output: each line is answered before more is read.
 use libc::STDOUT_FILENO;
 ghost use lib.ListN.{length};
 ghost use Rattle.serve.specs.Serves.{Lent, Replies, Replied, Served};
