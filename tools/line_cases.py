@@ -1,14 +1,15 @@
 #!/usr/bin/env python3
-"""Writes the input and output that a program over lines is held against: line_cases.py FOLDER MODE <FRAMES
+"""Writes the input and output that a program over lines is held against: python3 tools/line_cases.py FOLDER MODE <FRAMES
 
 FOLDER/stdin gets the frames of standard input, one to a line, and behind them each kind of line that holds no frame, lines that lie across the
 places where a chunk of 65,536 bytes ends, and a last line without its line feed. FOLDER/stdout gets what the judge says of them in its mode
 (`run` or `look`, compare/README.md). crates/bay and crates/look have what these write:
 
-    head -n 5 crates/bay/stdin | tools/line_cases.py crates/bay run
-    head -n 20 crates/look/stdin | tools/line_cases.py crates/look look
+    head -n 5 crates/bay/stdin | python3 tools/line_cases.py crates/bay run
+    head -n 20 crates/look/stdin | python3 tools/line_cases.py crates/look look
 """
 import subprocess, sys
+import usage
 from frames import tick
 from judge import JUDGE
 
@@ -52,7 +53,11 @@ def lines(have):
         yield good
         have += len(pad) + 1 + len(good) + 1
 
-folder, mode = sys.argv[1:]
+def mode_of(word):
+    if word not in ("run", "look"): raise ValueError
+    return word
+
+folder, mode = usage.words(__doc__, usage.folder, mode_of)
 head = sys.stdin.buffer.read()
 text = head + b"".join(line + b"\n" for line in lines(len(head))) + next(GOOD)
 with open(folder + "/stdin", "wb") as file:
