@@ -10,7 +10,7 @@ use Rattle.format.specs.Format.{via, enum, concatMap}
 use Rattle.lines.specs.Lines.{frame-of, digits, Puts}
 use Rattle.lines.proofs.Laws.{length-digits, puts-taken}
 use Rattle.model.specs.Calls.{Effect}
-use Rattle.model.specs.Limits.{max-effects}
+use Rattle.model.specs.Limits.{document01, max-effects}
 use Rattle.model.specs.Formats.{Bytes, effectF, enc-effects}
 use Rattle.model.specs.Sync.{Stepped}
 use Rattle.model.specs.Entry.{step-bytes}
