@@ -155,7 +155,8 @@ pub fn request_read(
     sent(q, pen)
 }
 
-// Ordering
+// Ordering: replies come in any order, and only the requests' numbers tell which is the newer. What is learned of a resource has the number
+// of the next request then. A reply to a lower number may be older than that, so it is doubted; one to the same number is not.
 
 // SyncState::learn
 pub fn learn(work: &mut [u8], p: Progress, name: Name) -> Progress
