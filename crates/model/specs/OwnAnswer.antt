@@ -64,29 +64,46 @@ pub data SameBut : List Bool → Bytes → Bytes → Type 0 where
 unfoldable pub marked : Bool → Bytes → List Bool
 marked mark part = map (λ b. mark) part
 
+infixr 5 _then_
+abbrev pub _then_ : List Bool → List Bool → List Bool
+marks then more = marks ++ more
+
 -- an entry's bytes: the reply is marked where it is the writer's own
 unfoldable pub entry-marks : Text → Attendee → List Bool
 entry-marks address a =
-    marked false (shortText .enc (a .address)) ++ marked false (option shortText .enc (a .name)) ++ marked false (attendeeRoleF .enc (a .role))
-    ++ marked (own address a) (participationF .enc (a .participation)) ++ marked false (kindF .enc (a .kind))
+    marked false (shortText .enc (a .address))
+    then marked false (option shortText .enc (a .name))
+    then marked false (attendeeRoleF .enc (a .role))
+    then marked (own address a) (participationF .enc (a .participation))
+    then marked false (kindF .enc (a .kind))
 
 unfoldable pub entries-marks : Text → List Attendee → List Bool
 entries-marks address [] = []
-entries-marks address (a ∷ l) = entry-marks address a ++ entries-marks address l
+entries-marks address (a ∷ l) = entry-marks address a then entries-marks address l
 
--- the fields' bytes: the attendees after their count byte, and the reminders, which are marked
+-- the bytes of an event's fields, of the attendees' count byte among them: the reminders are marked
 unfoldable pub fields-marks : Text → NormalizedEvent → List Bool
 fields-marks address f =
-    marked false (option shortText .enc (f .title)) ++ marked false (tag .enc (f .times)) ++ marked false (option tag .enc (f .recurrence))
-    ++ marked false (option organizerF .enc (f .organizer)) ++ (false ∷ entries-marks address (f .attendees))
-    ++ marked false (option shortText .enc (f .location)) ++ marked false (option tag .enc (f .description)) ++ marked false (statusF .enc (f .status))
-    ++ marked false (transparencyF .enc (f .transparency)) ++ marked false (visibilityF .enc (f .visibility)) ++ marked true (tag .enc (f .reminders))
+    marked false (option shortText .enc (f .title))
+    then marked false (tag .enc (f .times))
+    then marked false (option tag .enc (f .recurrence))
+    then marked false (option organizerF .enc (f .organizer))
+    then (false ∷ entries-marks address (f .attendees))
+    then marked false (option shortText .enc (f .location))
+    then marked false (option tag .enc (f .description))
+    then marked false (statusF .enc (f .status))
+    then marked false (transparencyF .enc (f .transparency))
+    then marked false (visibilityF .enc (f .visibility))
+    then marked true (tag .enc (f .reminders))
 
 -- an event's bytes
 unfoldable pub own-marks : Text → ProviderEvent → List Bool
 own-marks address e =
-    marked false (idsF .enc (e .ids)) ++ marked false (option shortText .enc (e .revision)) ++ marked false (u32 .enc (e .mapper-version))
-    ++ fields-marks address (e .fields) ++ marked false (tag .enc (e .passthrough))
+    marked false (idsF .enc (e .ids))
+    then marked false (option shortText .enc (e .revision))
+    then marked false (u32 .enc (e .mapper-version))
+    then fields-marks address (e .fields)
+    then marked false (tag .enc (e .passthrough))
 
 -- ---- a merge
 
