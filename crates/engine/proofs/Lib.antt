@@ -3,3 +3,5 @@ pub mod Laws
 pub mod Entry
 -- The three demands.
 pub mod Theorems
+-- Change request 9/13.
+pub mod OwnAnswer

@@ -2,3 +2,5 @@
 pub mod Answers
 -- The three demands.
 pub mod Demands
+-- Change request 9/13.
+pub mod OwnAnswer

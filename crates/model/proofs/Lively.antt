@@ -1,7 +1,7 @@
 -- A fact of the machine that outlives the assignments, the requests but for an Update, and the notices of the writing half outlives the writing half. One
 -- proof for all such facts, as Calm.antt has it for the reading half. What is known where an update is planned is handed to `on-edit-read-ends`.
 -- Assumes nothing.
-use mathlib.Core.Path.{_≡_, refl, sym, ap, _∙_}
+use mathlib.Core.Path.{_≡_, refl, sym, _∙_}
 use Prim.Native.Nat.{ℕ}
 use mathlib.Core.List.{List, [], _∷_}
 use mathlib.Core.Option.{Option, none, some}
@@ -19,9 +19,9 @@ use Rattle.model.specs.Limits.{max-attendees}
 use Rattle.model.specs.Maps.{if_then_else_}
 use Rattle.model.specs.Merge.{merge}
 use Rattle.model.specs.Machine.{Machine, Run, tell, request, queue-of, set-queue, set-edits, set-in-flight, set-now, set-aliases}
-use Rattle.model.specs.Sync.{ReadAnswer, answer, Coalesced, drop-in-flight, learn, doubt, observe, observe-write, head, notify, end-head, start-head, start-queue, start-edit, finish-queue, finish, read-for-edit, change-head, fold-in, cancel, append, place, enqueue-live, enqueue, move-to, move-behind, remap, plan-update, plan, edit-read-found, edit-read-answered, on-edit-read, written, deleted, read-again, write-failed, on-edit-write, tell-expired, tick-queue, tick-resource, tick, restart-edit, resume}
+use Rattle.model.specs.Sync.{ReadAnswer, answer, Coalesced, drop-in-flight, learn, doubt, observe-write, head, notify, end-head, start-head, start-queue, start-edit, finish-queue, finish, read-for-edit, change-head, fold-in, cancel, append, place, enqueue-live, enqueue, move-to, move-behind, remap, plan-update, plan, edit-read-found, edit-read-answered, on-edit-read, written, deleted, read-again, write-failed, on-edit-write, tell-expired, tick-queue, tick-resource, tick, restart-edit, resume}
 use Rattle.model.proofs.Holds.{Ends, stopped, holds, bind, branch, choose, loop, both, within-ends, decide, inspect}
-use Rattle.model.proofs.Calm.{Calm, NoUpdate, Same, same-calm, in-pass-holds, learn-holds, doubt-holds, observe-holds, observe-write-holds, resume-pass-holds}
+use Rattle.model.proofs.Calm.{Calm, NoUpdate, same-calm, in-pass-holds, learn-holds, doubt-holds, observe-holds, observe-write-holds, resume-pass-holds}
 
 pub record Lively (R : ℕ → Type 0) (P : Machine → Type 0) : Type 0 where
   pub calmly : Calm R P

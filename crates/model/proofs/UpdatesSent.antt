@@ -5,25 +5,24 @@ use native.Mathlib.Omega.{arith}
 use mathlib.Core.Path.{_≡_, refl, sym, ap, _∙_, subst}
 use mathlib.Core.List.{List, [], _∷_, _++_}
 use mathlib.Core.Option.{Option, none, some}
-use mathlib.Core.Bool.{Bool, true, false}
+use mathlib.Core.Bool.{Bool, false}
 use lib.ListN.{length}
 use lib.Dec.{leb, T, le→leb}
 use Rattle.format.specs.Format.{All}
-use Rattle.model.specs.Event.{Text, ProviderRevision, NormalizedEvent, ProviderEvent}
+use Rattle.model.specs.Event.{ProviderEvent}
 use Rattle.model.specs.Seam.{RequestId, ResourceId, Cursor, Request, Failure, Outcome}
 use Rattle.model.specs.Parts.{Role}
-use Rattle.model.specs.Edits.{Operation}
 use Rattle.model.specs.Calls.{Input, Notice, Effect}
 use Rattle.model.specs.State.{Map, Pass, Pending, Queue, Purpose, SyncState}
 use Rattle.model.specs.Limits.{Limits, max-attendees}
-use Rattle.model.specs.Maps.{if_then_else_, by-name, by-number, get, first}
+use Rattle.model.specs.Maps.{by-name, by-number, get, first}
 use Rattle.model.specs.Formats.{eventF, inputF}
 use Rattle.model.specs.Merge.{merge}
-use Rattle.model.specs.Machine.{Machine, Run, match_none:_some:_, push, tell, request, in-pass, queue-of, set-records, set-cursor, set-pass, set-edits, set-in-flight, set-next-request, set-learned, set-learned-all, set-now, set-aliases}
-use Rattle.model.specs.Sync.{start, ReadAnswer, answer, answer-failed, Stepped, stepped, step, is-pass-read, drop-in-flight, start-pass, restart-pass, on-list, list-failed, list-answered, apply-staged, apply-pass, try-commit, head, on-outcome, known-outcome, handle, apply}
+use Rattle.model.specs.Machine.{Machine, Run, match_none:_some:_, push, tell, request, queue-of, set-records, set-cursor, set-pass, set-edits, set-in-flight, set-next-request, set-learned, set-learned-all, set-now, set-aliases}
+use Rattle.model.specs.Sync.{start, ReadAnswer, answer, answer-failed, Stepped, stepped, step, is-pass-read, drop-in-flight, restart-pass, on-list, list-failed, list-answered, apply-staged, apply-pass, try-commit, head, on-outcome, known-outcome, handle, apply}
 use Rattle.model.specs.Demands.{effects-of, is-cursor-expired}
-use Rattle.model.specs.OwnAnswer.{OnlyOwn, UpdateRead, UpdateSent, UpdatesSentSo, OwnersUpdate, OnlyOwnersCrowd}
-use Rattle.model.proofs.Holds.{Ends, stopped, holds, bind, branch, choose, loop, within-ends, inspect}
+use Rattle.model.specs.OwnAnswer.{OnlyOwn, UpdateRead, UpdateSent, UpdatesSentSo, OwnersUpdate, OnlyOwnersCrowd, NoAttendeeCrowds}
+use Rattle.model.proofs.Holds.{Ends, stopped, holds, bind, branch, loop, within-ends, inspect}
 use Rattle.model.proofs.Calm.{Calm, NoUpdate, in-pass-holds, on-refresh-holds, start-pass-holds, list-answered-holds, on-pass-read-holds, apply-one-holds, read-observed-holds, either-keeps, forget-settled-keeps, forget-aliases-keeps}
 use Rattle.model.proofs.Lively.{Lively, Planned, plan-update-ends, enqueue-ends, on-edit-read-ends, on-edit-write-ends, tick-ends, resume-ends}
 use Rattle.model.proofs.Fitting.{all-append}
@@ -288,3 +287,23 @@ refused-why s input (Run.ok m) n (holds h) e = absurd (let z : _≡_ {A = ℕ} 0
 pub only-owners-crowd : OnlyOwnersCrowd
 unfolding step Why
 only-owners-crowd limits s input ok e = refused-why s input _ 6 (step-fine limits s input) e refl ok
+
+-- an input answers one read only, and a queue has one head
+same-role : (s : SyncState) (input : Input) (r t : ResourceId) (x : UpdateRead s input r) (y : UpdateRead s input t) → x .head .edit .role ≡ y .head .edit .role
+same-role s input r t x y =
+    let a = x .answers in
+    let b = y .answers in
+    let numbers : x .number ≡ y .number = cc in
+    let c : get by-number (y .number) (s .in-flight) ≡ some (Purpose.EditRead r) = subst (λ (n : RequestId). get by-number n (s .in-flight) ≡ some (Purpose.EditRead r)) numbers (x .asked) in
+    let d = y .asked in
+    let names : r ≡ t = cc in
+    let e : get by-name t (s .edits) ≡ some (x .head ∷ x .behind) = subst (λ (n : ResourceId). get by-name n (s .edits) ≡ some (x .head ∷ x .behind)) names (x .waits) in
+    let f = y .waits in
+    let heads : x .head ≡ y .head = cc in
+    ap (λ (p : Pending). p .edit .role) heads
+
+pub no-attendee-crowds : NoAttendeeCrowds
+no-attendee-crowds limits s input ok resource read address e six =
+    let owners : OwnersUpdate s input = only-owners-crowd limits s input ok six in
+    let clash : Role.Owner ≡ Role.Attendee address = sym (owners .owner) ∙ same-role s input _ _ (owners .read) read ∙ e in
+    absurd (let z : _≡_ {A = ℕ} 0 1 = cc in omega arith)

@@ -155,3 +155,8 @@ pub record OwnersUpdate (s : SyncState) (input : Input) : Type 0 where
 
 abbrev pub OnlyOwnersCrowd : Type 0
 OnlyOwnersCrowd = (limits : Limits) (s : SyncState) (input : Input) → inputF .Ok input → step limits s input ≡ Stepped.Refused 6 → OwnersUpdate s input
+
+-- so an attendee's update is never refused with 6
+abbrev pub NoAttendeeCrowds : Type 0
+NoAttendeeCrowds = (limits : Limits) (s : SyncState) (input : Input) → inputF .Ok input → (resource : ResourceId) (read : UpdateRead s input resource) (address : Text)
+    → read .head .edit .role ≡ Role.Attendee address → step limits s input ≡ Stepped.Refused 6 → ⊥

@@ -6,7 +6,7 @@ use mathlib.Core.Bool.{true}
 use mathlib.Core.List.{List, [], _∷_, _++_, append-assoc, append-nil}
 use lib.ListN.{length, take, drop, length-append, length-drop}
 use lib.Seq.{take-at, drop-at, take-all, length-take-le, take-append-add, drop-append-seam, take-append-seam}
-use Rattle.format.specs.Format.{All, via, enum, concatMap, bigEndian}
+use Rattle.format.specs.Format.{All, via, enum, bigEndian}
 use Rattle.frame.specs.Read.{skips}
 use Rattle.frame.specs.declared.Cursor.{Cursor}
 use Rattle.frame.proofs.Spans.{skips-written}
@@ -15,16 +15,12 @@ use Rattle.lines.proofs.Laws.{length-digits, puts-none, puts-then, puts-taken}
 use Rattle.effects.proofs.Pushed.{enc-more}
 use Rattle.model.specs.Calls.{Effect}
 use Rattle.model.specs.Formats.{Bytes, effectF, enc-effects}
+use Rattle.model.proofs.Bytes.{enc-append}
 use Rattle.model.proofs.FormatsLaws.{effectF-law}
 use Rattle.program.specs.Program.{line, answer-bytes, effect-lines}
 use Rattle.program.specs.Answers.{Effects, Lists, Answers}
 
 -- ---- lists of effects
-
-enc-append : (xs ys : List Effect) → enc-effects (xs ++ ys) ≡ enc-effects xs ++ enc-effects ys
-unfolding enc-effects
-enc-append [] ys = refl
-enc-append (x ∷ xs) ys = ap (λ (t : Bytes). effectF .enc x ++ t) (enc-append xs ys) ∙ sym (append-assoc (effectF .enc x) (concatMap (effectF .enc) xs) (concatMap (effectF .enc) ys))
 
 lines-append : (xs ys : List Effect) → effect-lines (xs ++ ys) ≡ effect-lines xs ++ effect-lines ys
 unfolding effect-lines
