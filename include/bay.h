@@ -49,7 +49,7 @@ enum {
     BAY_FRAME = 3,           /* the bytes are not exactly one input frame */
     BAY_REQUEST_NUMBERS = 4, /* no request number is left */
     BAY_TABLE = 5,           /* a table would need one entry more than its limit */
-    BAY_ATTENDEES = 6,       /* the merged event would have over 8 attendees */
+    BAY_ATTENDEES = 6,       /* an owner's update, merged, would have over 8 attendees; an attendee's never has */
     BAY_EFFECTS = 7          /* the effects would pass 32,768 bytes */
 };
 

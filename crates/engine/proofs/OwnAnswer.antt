@@ -22,32 +22,32 @@ use Rattle.model.specs.OwnAnswer.{UpdateSent}
 use Rattle.model.proofs.Bytes.{read-ends, update-stands}
 use Rattle.model.proofs.Theorems as model
 use Rattle.engine.specs.Demands.{Called, plain}
-use Rattle.engine.specs.OwnAnswer.{Held, Crowded, Accepted, OwnAnswerOnly}
+use Rattle.engine.specs.OwnAnswer.{Decoded, CrowdedCall, AcceptedCall, OwnAnswerOnly}
 use Rattle.engine.proofs.Theorems.{demand-2, nothing-else}
 
 -- ---- what the code says of what was lent
 
 module _ (c : Called) where
-  held : (s : SyncState) (input : Input) → read-state document01 (c .lent .state) ≡ some s → decode (c .frame) ≡ some input → Held c
+  decoded : (s : SyncState) (input : Input) → read-state document01 (c .lent .state) ≡ some s → decode (c .frame) ≡ some input → Decoded c
   unfolding decode
-  held s input e d =
+  decoded s input e d =
       let p = model.states-exact document01 (c .lent .state) s .0 e in
       let q = model.accepted (c .frame) input .0 d in
       record { state = s; well = p .0; buffer = p .1; input = input; valid = q .0; frame = q .1 }
 
-  crowded-call : (n : ℕ) → Coded document01 (c .lent) (c .frame) n → n ≡ 6 → Crowded c
-  unfolding decode held
+  crowded-call : (n : ℕ) → Coded document01 (c .lent) (c .frame) n → n ≡ 6 → CrowdedCall c
+  unfolding decode decoded
   crowded-call n (wrong-length l) z = absurd (omega (arith, z))
   crowded-call n (no-state l e) z = absurd (omega (arith, z))
   crowded-call n (no-input l e d) z = absurd (omega (arith, z))
   crowded-call n (in-step {s = s} {input = input} l e d h r) z = record {
-    held = held s input e d;
+    decoded = decoded s input e d;
     owners = model.only-owners-crowd document01 s input (model.accepted (c .frame) input .0 d .0) (h ∙ ap Stepped.Refused z);
   }
   crowded-call n (accepted l e d h) z = absurd (omega (arith, z))
 
   -- whoever holds the state and the input, the step on them was refused
-  refused-with : (h : Held c) (k : ℕ) → Coded document01 (c .lent) (c .frame) k → k ≡ 6 → step document01 (h .state) (h .input) ≡ Stepped.Refused 6
+  refused-with : (h : Decoded c) (k : ℕ) → Coded document01 (c .lent) (c .frame) k → k ≡ 6 → step document01 (h .state) (h .input) ≡ Stepped.Refused 6
   unfolding decode
   refused-with h k (wrong-length l) z = absurd (omega (arith, z))
   refused-with h k (no-state l e) z = absurd (omega (arith, z))
@@ -74,10 +74,10 @@ module _ (c : Called) where
       rw (l′, d) h
 
   accepted-call : (s s′ : SyncState) (input : Input) (out : List Effect) → lengths-right document01 (c .lent) ≡ true → read-state document01 (c .lent .state) ≡ some s
-      → decode (c .frame) ≡ some input → step document01 s input ≡ Stepped.Done s′ out → Accepted c
-  unfolding answered leaves effects-of held
+      → decode (c .frame) ≡ some input → step document01 s input ≡ Stepped.Done s′ out → AcceptedCall c
+  unfolding answered leaves effects-of decoded
   accepted-call s s′ input out l e d h =
-      let H : Held c = held s input e d in
+      let H : Decoded c = decoded s input e d in
       let answer-is : c .answer ≡ answered document01 (c .lent) (Stepped.Done s′ out) =
       demand-2 c s (H .well) input (H .valid) .same (subst T (sym l) tt) (H .buffer) (H .frame) ∙ ap (answered document01 (c .lent)) h in
       let valid : All (effectF .Ok) out =
@@ -85,7 +85,7 @@ module _ (c : Called) where
       let output : take (c .answer .length) (c .answer .lent .out) ≡ enc-effects out =
       ap (λ (a : Returned). take (a .length) (a .lent .out)) answer-is ∙ take-append-seam (enc-effects out) (zeros (length (c .lent .out) - length (enc-effects out))) in
       record {
-        held = H;
+        decoded = H;
         effects = out;
         valid = valid;
         output = output;
@@ -105,7 +105,7 @@ module _ (c : Called) where
             };
       }
 
-  accepted-code : (n : ℕ) → Coded document01 (c .lent) (c .frame) n → n ≡ 0 → Accepted c
+  accepted-code : (n : ℕ) → Coded document01 (c .lent) (c .frame) n → n ≡ 0 → AcceptedCall c
   accepted-code n (wrong-length l) z = absurd (omega (arith, z))
   accepted-code n (no-state l e) z = absurd (omega (arith, z))
   accepted-code n (no-input l e d) z = absurd (omega (arith, z))

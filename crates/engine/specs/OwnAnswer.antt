@@ -18,7 +18,7 @@ use Rattle.model.specs.OwnAnswer.{UpdateRead, UpdateSent, OwnersUpdate}
 use Rattle.engine.specs.Demands.{Called}
 
 -- the state and the input whose bytes the call was lent: no others have these bytes
-pub record Held (c : Called) : Type 0 where
+pub record Decoded (c : Called) : Type 0 where
   pub state : SyncState
   pub well : WellFormed document01 state
   pub buffer : c .lent .state ≡ stateBytes document01 .enc state
@@ -27,13 +27,13 @@ pub record Held (c : Called) : Type 0 where
   pub frame : c .frame ≡ inputF .enc input
 
 -- a call refused with 6 merged an owner's update
-pub record Crowded (c : Called) : Type 0 where
-  pub held : Held c
-  pub owners : OwnersUpdate (held .state) (held .input)
+pub record CrowdedCall (c : Called) : Type 0 where
+  pub decoded : Decoded c
+  pub owners : OwnersUpdate (decoded .state) (decoded .input)
 
 -- an Update request of a call: what it carries, and where the bytes stand. The frame ends with the event that was read.
-pub record Update (c : Called) (h : Held c) (resource : ResourceId) (event : ProviderEvent) : Type 0 where
-  pub sent : UpdateSent (h .state) (h .input) resource event
+pub record UpdateCarried (c : Called) (d : Decoded c) (resource : ResourceId) (event : ProviderEvent) : Type 0 where
+  pub sent : UpdateSent (d .state) (d .input) resource event
   pub front : Bytes
   pub frame : c .frame ≡ front ++ eventF .enc (sent .read .theirs)
   pub before : Bytes
@@ -41,19 +41,19 @@ pub record Update (c : Called) (h : Held c) (resource : ResourceId) (event : Pro
   pub output : c .answer .lent .out ≡ before ++ (eventF .enc event ++ after)
 
 -- an accepted call: its effects, and every Update request among them
-pub record Accepted (c : Called) : Type 0 where
-  pub held : Held c
+pub record AcceptedCall (c : Called) : Type 0 where
+  pub decoded : Decoded c
   pub effects : List Effect
   pub valid : All (effectF .Ok) effects
   pub output : take (c .answer .length) (c .answer .lent .out) ≡ enc-effects effects
   -- no other list of effects has these bytes
   pub only : (es : List Effect) → All (effectF .Ok) es → take (c .answer .length) (c .answer .lent .out) ≡ enc-effects es → es ≡ effects
   pub updates : (before after : List Effect) (n : RequestId) (resource : ResourceId) (revision : Option ProviderRevision) (event : ProviderEvent)
-      → effects ≡ before ++ Effect.Request n (Request.Update resource revision event) ∷ after → Update c held resource event
+      → effects ≡ before ++ Effect.Request n (Request.Update resource revision event) ∷ after → UpdateCarried c decoded resource event
 
 pub record OwnAnswerOnly (c : Called) : Type 0 where
   -- an attendee's update is never refused with 6
-  pub never : (h : Held c) (resource : ResourceId) (read : UpdateRead (h .state) (h .input) resource) (address : Text) → read .head .edit .role ≡ Role.Attendee address
+  pub never : (d : Decoded c) (resource : ResourceId) (read : UpdateRead (d .state) (d .input) resource) (address : Text) → read .head .edit .role ≡ Role.Attendee address
       → c .answer .code ≡ 6 → ⊥
-  pub crowded : c .answer .code ≡ 6 → Crowded c
-  pub accepted : c .answer .code ≡ 0 → Accepted c
+  pub crowded : c .answer .code ≡ 6 → CrowdedCall c
+  pub accepted : c .answer .code ≡ 0 → AcceptedCall c

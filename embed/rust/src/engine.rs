@@ -35,7 +35,7 @@ pub enum Refusal {
     RequestNumbers,
     /// 5: a table would need one entry more than its limit.
     Table,
-    /// 6: the merged event would have too many attendees.
+    /// 6: the merged event would have too many attendees. Only an owner's update meets it.
     Attendees,
     /// 7: the effects would pass the output.
     Effects,
