@@ -14,7 +14,7 @@ use Rattle.model.specs.Shapes.{participationFrom}
 use Rattle.model.specs.Maps.{if_then_else_, same-text, map, filter, is-some}
 use Rattle.model.specs.Formats.{Bytes, tag, shortText, u32, organizerF, attendeeRoleF, participationF, kindF, attendeeF, statusF, transparencyF, visibilityF, fieldsF, idsF, eventF}
 use Rattle.model.specs.Merge.{unreported, merge-part, rest, with-participation, whole-entry, own-removed, own-reply, own-standing, own-entry, to-ascii-lowercase, Key, Keyed, same-key, key-of, keyed-after, keyed, find, is-own, is-owner, entry-at, entries-at, extend, key-order, merge-attendees, merge}
-use Rattle.model.specs.OwnAnswer.{own, but-reply, but-own, SameBut, end, same, free, marked, entry-marks, entries-marks, fields-marks, own-marks, OnlyOwn, OnlyOwnAnswer}
+use Rattle.model.specs.OwnAnswer.{own, but-reply, but-own, SameBut, end, same, free, marked, entry-marks, entries-marks, fields-marks, own-marks, marks, NothingElseMarked, OnlyOwn, OnlyOwnAnswer}
 use Rattle.model.proofs.MergeKeys.{weigh-append, one-if, hits, Distinct, keys, entries, same-key-self, same-key-turned, keys-append, keyed-distinct, entries-keyed}
 use Rattle.model.proofs.MergeReports.{part-theirs}
 
@@ -280,7 +280,68 @@ only-own address t attendees reminders s = record {
   bytes = event-bytes address t attendees reminders s;
 }
 
--- the merged event
+-- ---- how many bytes are marked
+
+marks-append : (m n : List Bool) → marks (m ++ n) ≡ marks m + marks n
+unfolding marks
+marks-append [] n = omega arith
+marks-append (true ∷ m) n = omega (arith, marks-append m n)
+marks-append (false ∷ m) n = marks-append m n
+
+unmarked : (x : Bytes) → marks (marked false x) ≡ 0
+unfolding marks marked map
+unmarked [] = refl
+unmarked (b ∷ x) = unmarked x
+
+all-marked : (x : Bytes) → marks (marked true x) ≡ length x
+unfolding marks marked map
+all-marked [] = refl
+all-marked (b ∷ x) = omega (arith, all-marked x)
+
+-- a part without marks before others
+before-marks : (x : Bytes) (m : List Bool) → marks (marked false x ++ m) ≡ marks m
+before-marks x m = omega (arith, marks-append (marked false x) m, unmarked x)
+
+module _ (address : Text) where
+  entry-marked : (a : Attendee) → marks (entry-marks address a) ≡ one-if (own address a)
+  unfolding entry-marks participationF via below marks marked map
+  entry-marked a =
+      before-marks (shortText .enc (a .address)) _ ∙ before-marks (option shortText .enc (a .name)) _ ∙ before-marks (attendeeRoleF .enc (a .role)) _ ∙ go (own address a)
+    where
+      go : (c : Bool) → marks (marked c (participationFrom (a .participation) ∷ []) ++ marked false (kindF .enc (a .kind))) ≡ one-if c
+      go true = omega (arith, unmarked (kindF .enc (a .kind)))
+      go false = unmarked (kindF .enc (a .kind))
+
+  entries-marked : (l : List Attendee) → marks (entries-marks address l) ≡ length (filter (own address) l)
+  unfolding entries-marks marks filter if_then_else_
+  entries-marked [] = refl
+  entries-marked (a ∷ l) = marks-append (entry-marks address a) (entries-marks address l) ∙ go (own address a) (entry-marked a) (entries-marked l)
+    where
+      go : (c : Bool) → marks (entry-marks address a) ≡ one-if c → marks (entries-marks address l) ≡ length (filter (own address) l)
+          → marks (entry-marks address a) + marks (entries-marks address l) ≡ length (if c then a ∷ filter (own address) l else filter (own address) l)
+      go true e h = omega (arith, e, h)
+      go false e h = omega (arith, e, h)
+
+  fields-marked : (f : NormalizedEvent) → marks (fields-marks address f) ≡ length (filter (own address) (f .attendees)) + length (tag .enc (f .reminders))
+  unfolding fields-marks marks
+  fields-marked f =
+      before-marks (option shortText .enc (f .title)) _ ∙ before-marks (tag .enc (f .times)) _ ∙ before-marks (option tag .enc (f .recurrence)) _
+      ∙ before-marks (option organizerF .enc (f .organizer)) _ ∙ marks-append (entries-marks address (f .attendees)) _
+      ∙ ap₂ (λ (n m : ℕ). n + m) (entries-marked (f .attendees)) (before-marks (option shortText .enc (f .location)) _ ∙ before-marks (option tag .enc (f .description)) _
+      ∙ before-marks (statusF .enc (f .status)) _ ∙ before-marks (transparencyF .enc (f .transparency)) _ ∙ before-marks (visibilityF .enc (f .visibility)) _
+      ∙ all-marked (tag .enc (f .reminders)))
+
+pub nothing-else-marked : NothingElseMarked
+unfolding own-marks
+nothing-else-marked address e =
+    before-marks (idsF .enc (e .ids)) _ ∙ before-marks (option shortText .enc (e .revision)) _ ∙ before-marks (u32 .enc (e .mapper-version)) _
+    ∙ marks-append (fields-marks address (e .fields)) _ ∙ ends (fields-marked address (e .fields)) (unmarked (tag .enc (e .passthrough)))
+  where
+    ends : {n m k : ℕ} → n ≡ m → k ≡ 0 → n + k ≡ m
+    ends p q = omega (arith, p, q)
+
+-- ---- the merged event
+
 merged-is : (base ours : NormalizedEvent) (t : ProviderEvent) (address : Text)
     → merge base ours t (Role.Attendee address) .event
     ≡ answered t (merge-attendees (Role.Attendee address) (base .attendees) (ours .attendees) (t .fields .attendees) .value)

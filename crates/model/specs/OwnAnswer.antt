@@ -1,6 +1,6 @@
 -- Change request 9/13: an attendee changes only their own answer. What that says of two events, value by value and byte by byte; of a merge; and of a
 -- step. Assumes nothing.
-use Prim.Native.Nat.{ℕ}
+use Prim.Native.Nat.{ℕ, _+_}
 use mathlib.Core.Path.{_≡_}
 use mathlib.Core.List.{List, [], _∷_, _++_}
 use mathlib.Core.Option.{Option, some}
@@ -14,7 +14,7 @@ use Rattle.model.specs.Edits.{Operation}
 use Rattle.model.specs.Calls.{Input, Effect}
 use Rattle.model.specs.State.{Pending, Queue, Purpose, SyncState}
 use Rattle.model.specs.Limits.{Limits}
-use Rattle.model.specs.Maps.{if_then_else_, by-name, by-number, same-text, map, get}
+use Rattle.model.specs.Maps.{if_then_else_, by-name, by-number, same-text, map, filter, get}
 use Rattle.model.specs.Formats.{Bytes, shortText, tag, u32, organizerF, attendeeRoleF, participationF, kindF, statusF, transparencyF, visibilityF, idsF, eventF, inputF}
 use Rattle.model.specs.Merge.{rest, to-ascii-lowercase, merge}
 use Rattle.model.specs.Sync.{Stepped, step}
@@ -57,8 +57,8 @@ but-own address e = record {
 -- as many bytes, and the same but where a mark is true
 pub data SameBut : List Bool → Bytes → Bytes → Type 0 where
   end : SameBut [] [] []
-  same : {marks : List Bool} {x y : Bytes} (b : ℕ) → SameBut marks x y → SameBut (false ∷ marks) (b ∷ x) (b ∷ y)
-  free : {marks : List Bool} {x y : Bytes} (b c : ℕ) → SameBut marks x y → SameBut (true ∷ marks) (b ∷ x) (c ∷ y)
+  same : {m : List Bool} {x y : Bytes} (b : ℕ) → SameBut m x y → SameBut (false ∷ m) (b ∷ x) (b ∷ y)
+  free : {m : List Bool} {x y : Bytes} (b c : ℕ) → SameBut m x y → SameBut (true ∷ m) (b ∷ x) (c ∷ y)
 
 -- one mark for every byte of a part
 unfoldable pub marked : Bool → Bytes → List Bool
@@ -66,7 +66,7 @@ marked mark part = map (λ b. mark) part
 
 infixr 5 _then_
 abbrev pub _then_ : List Bool → List Bool → List Bool
-marks then more = marks ++ more
+m then n = m ++ n
 
 -- an entry's bytes: the reply is marked where it is the writer's own
 unfoldable pub entry-marks : Text → Attendee → List Bool
@@ -104,6 +104,17 @@ own-marks address e =
     then marked false (u32 .enc (e .mapper-version))
     then fields-marks address (e .fields)
     then marked false (tag .enc (e .passthrough))
+
+-- how many bytes are marked
+unfoldable pub marks : List Bool → ℕ
+marks [] = 0
+marks (true ∷ l) = 1 + marks l
+marks (false ∷ l) = marks l
+
+-- the reminders' bytes, one for each of the writer's own entries, and no others
+abbrev pub NothingElseMarked : Type 0
+NothingElseMarked = (address : Text) (e : ProviderEvent)
+    → marks (own-marks address e) ≡ length (filter (own address) (e .fields .attendees)) + length (tag .enc (e .fields .reminders))
 
 -- ---- a merge
 
