@@ -78,23 +78,30 @@ def steps(frames):
     """Of each frame the answer's number, and the effects."""
     return [(int(lines[0][:2], 16), [bytes.fromhex(l.decode()) for l in lines[1:]]) for lines in judge.answers([f.hex().encode() for f in frames])]
 
-def answer(base, ours, event, role):
+def judged(base, ours, event, role):
+    """The merged event, or None where it has over 8 attendees; then the conflicts and the refused list."""
     edit = b"\1" + text("e") + text("r") + b"\1" + base + ours + role + b"\0"
     read = b"\2" + num(0) + b"\1\1" + event
     written = b"\2" + num(1) + b"\2" + event
     _, (code, effects), (_, after) = steps([edit, read, written])
-    if code == 6: return "06"
+    if code == 6: return None, b""
     assert code == 0, code
     if effects[0][0] == 1:
-        applied, merged = effects[0], b""
+        applied, merged = effects[0], event
     else:
         body = effects[0][10:]                       # case, number, case
         assert effects[0][9] == 4
         body = body[1 + body[0]:]                    # resource
         merged = body[2 + body[1]:] if body[0] else body[1:]
         applied = after[0]
+        assert merged != event
     assert applied[:4] == b"\1\2\1e", applied
-    return "%02x %s %s" % (1 if merged else 0, merged.hex() or "-", applied[4:].hex())
+    return merged, applied[4:]
+
+def answer(base, ours, event, role):
+    merged, reports = judged(base, ours, event, role)
+    if merged is None: return "06"
+    return ("00 - " if merged == event else "01 %s " % merged.hex()) + reports.hex()
 
 def main():
     seed, count, folder = usage.words(__doc__, int, int, usage.folder)
@@ -107,4 +114,5 @@ def main():
     open(folder + "/stdout", "w").write("".join(l + "\n" for l in lines))
     print(len(data), "bytes;", sum(l == "06" for l in lines), "of refusal 6,", sum(l.startswith("01") for l in lines), "changed")
 
-main()
+if __name__ == "__main__":
+    main()
