@@ -1,0 +1,50 @@
+-- One entry after the other, up to their count. Assumes nothing.
+use Prim.Native.Nat.{_-_}
+use borrow.Author.Needs.{needs}
+use Rattle.attendee_test.proofs.differences.entries.Statement.{statement}
+use Rattle.attendee_test.proofs.differences.entries.Tie as tie
+
+abbrev Inv-loop : tie.InvT-loop
+Inv-loop theirs event me n now₀ i₀ now i = Unit {0}
+
+abbrev μ-loop : tie.MeasureT-loop
+μ-loop theirs event me n now₀ i₀ now i = n - i
+
+count-requires : tie.Need-count-requires Inv-loop μ-loop
+count-requires c κs = search needs
+
+to-requires : tie.Need-to-requires Inv-loop μ-loop
+to-requires c κs = search needs
+
+loop-holds : tie.Need-loop-holds Inv-loop μ-loop
+loop-holds c = search needs
+
+entry-requires : tie.Need-entry-requires Inv-loop μ-loop
+entry-requires c κs = search needs
+
+add-i : tie.Need-add-i Inv-loop μ-loop
+add-i c = search needs
+
+loop-less : tie.Need-loop-less Inv-loop μ-loop
+loop-less c = search needs
+
+loop-again : tie.Need-loop-again Inv-loop μ-loop
+loop-again c = search needs
+
+returns : tie.Need-returns Inv-loop μ-loop
+returns c = search needs
+
+pub entries-spec : {M : Type 1} → statement M
+entries-spec =
+    tie.close
+    (tie.spec
+    Inv-loop
+    μ-loop
+    count-requires
+    to-requires
+    loop-holds
+    entry-requires
+    add-i
+    loop-less
+    loop-again
+    returns)
