@@ -2,6 +2,7 @@
 //! steps and profile give the same lines.
 mod damage;
 mod fills;
+mod merges;
 mod moves;
 mod replies;
 mod rng;
@@ -14,6 +15,7 @@ use crate::engine::{self, Engine};
 use crate::limited::{Input, Outcome, RequestId, ResourceId, codec};
 use crate::view::{Purpose, View, hex};
 pub use damage::ODD_TEXTS;
+pub use merges::{AttendeeMerge, attendee_merges};
 pub use rng::Rng;
 pub use wild::random_state;
 

@@ -3,6 +3,7 @@ pub use calendar_sync_engine as plain;
 pub use calendar_sync_engine_limited as limited;
 pub use calendar_sync_model as model;
 
+pub mod attendee;
 pub mod checks;
 pub mod cover;
 pub mod engine;

@@ -2,7 +2,7 @@
 use judge::cover::{self, Cover};
 use judge::engine::{self, Answer, Engine};
 use judge::view::hex;
-use judge::{checks, frames, limited};
+use judge::{attendee, checks, frames, limited};
 use std::io::{self, BufRead, Write};
 use std::process::ExitCode;
 
@@ -19,7 +19,9 @@ const USAGE: &str = "usage:
   judge cover --seed A..B --steps N [--profile P] [--wild]  the situations that these frames reach
   judge reach --seed A..B --steps N [--profile P]  for each run the listed situations that it reaches, a line each:
               profile, seed, the frame that first reaches it, situation; then, after '-', the ones that no run reaches
-  judge check [--frames]                       document 01's lines, against the published Rust; with the frames used";
+  judge check [--frames]                       document 01's lines, against the published Rust; with the frames used
+  judge attendee [--seed S] [--merges N]       whether an attendee's merge changes only the writer's own answer: every
+              merge of lists of at most two, and N random ones (500000)";
 
 struct Args(Vec<String>);
 
@@ -63,6 +65,7 @@ fn main() -> ExitCode {
         "cover" => cover(&args, &mut out),
         "reach" => reach(&args, &mut out),
         "check" => checks::run(&mut out, args.has("--frames")),
+        "attendee" => attendee::run(&mut out, args.number("--seed", 1), args.number("--merges", 500_000) as usize),
         _ => die(USAGE),
     };
     // Only a reader that has gone away makes writing fail.

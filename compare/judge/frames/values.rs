@@ -423,7 +423,7 @@ impl Gen<'_> {
     }
 
     /// A change of these fields; an attendee mostly changes one of its own entries.
-    fn update_by(&mut self, role: &mut Role, follow: bool, base: NormalizedEvent) -> Operation {
+    pub(super) fn update_by(&mut self, role: &mut Role, follow: bool, base: NormalizedEvent) -> Operation {
         if let Role::Attendee { address } = role {
             if !follow && !base.attendees.is_empty() && self.rng.chance(75) {
                 *address = self.rng.pick(&base.attendees).address.clone();
