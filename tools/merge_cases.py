@@ -4,7 +4,8 @@
 FOLDER/stdin gets the cases back to back (base, ours, theirs, role, as they stand in a frame), FOLDER/stdout a line for each: 06 where the
 merged event has over 8 attendees, else 01 or 00 (changed or not), the merged event where it changed, the conflicts and the refused
 list, in hexadecimal. The judge answers them (judge.py): each case runs from a fresh state, an update of base and ours, the read of theirs,
-and the write's reply. The first cases are document 01's merge lines, by hand. crates/merge_replay has these and the 230 cases of seed 7.
+and the write's reply. The first cases are document 01's merge lines, by hand; after the random ones come 45 more, under the attendee role, that all change something.
+crates/merge_replay has these and the 230 cases of seed 7.
 """
 import random
 import judge, usage
@@ -103,10 +104,18 @@ def answer(base, ours, event, role):
     if merged is None: return "06"
     return ("00 - " if merged == event else "01 %s " % merged.hex()) + reports.hex()
 
+def changing(r, count):
+    """Random cases under the attendee role of which the merge changes something."""
+    found = []
+    while len(found) < count:
+        drawn = case(r)[:3] + (b"\1" + text(r.choice(ADDRESSES[:3])),)
+        if judged(*drawn)[0] != drawn[2]: found.append(drawn)
+    return found
+
 def main():
     seed, count, folder = usage.words(__doc__, int, int, usage.folder)
     r = random.Random(seed)
-    cases = list(document01()) + [case(r) for _ in range(count)]
+    cases = list(document01()) + [case(r) for _ in range(count)] + changing(r, 45)
     lines = [answer(*c) for c in cases]
     data = b"".join(b"".join(c) for c in cases)
     assert len(data) <= 65536, len(data)
