@@ -100,7 +100,7 @@ impl Walk {
     }
 }
 
-// Past an entry: of the writer's own, the reply is theirs to change.
+// Past an entry. The reply in the writer's own is the writer's to change.
 fn entry(walk: Walk, theirs: &[u8], event: &[u8], me: &[u8]) -> Walk {
     let address = walk.place.text(theirs, MAX_TEXT);
     let own = same_folded(address.value.bytes(theirs), me);

@@ -77,7 +77,7 @@ fn past(s: &[u8], place: Cursor, length: usize) -> Cursor {
     }
 }
 
-// An owner is taken for an attendee without an address: of an owner's merge it must be told that it is none by such.
+// An owner is taken for an attendee without an address, so that what only an owner may change is told.
 fn claim_of(s: &[u8], theirs: &[u8], event: &[u8], role: Role) -> Claim {
     match role {
         Role::Owner => claimed(theirs, event, &s[..0]),
