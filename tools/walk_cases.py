@@ -1,26 +1,27 @@
 #!/usr/bin/env python3
-"""Writes the field engineers' four walks and one with a refused frame, the list that the program `checklist` runs: walk_cases.py FOLDER
+"""Writes the field engineers' four walks, one with a mistyped frame and two over a full booking, the list that the program `checklist` runs: walk_cases.py FOLDER
 
 FOLDER/stdin gets the walks in the form that README.md says under "A walk of your own". crates/checklist has what this writes. What the program prints of
-them, FOLDER/stdout, this does not write: whether a new walk's conditions are the right ones is to be found in document 01, and not by running it.
+them, FOLDER/stdout, this does not write: whether a new walk's conditions are the right ones is to be found in documents 01 and 02, and not by running it.
 """
 import usage
 from frames import *
 
-LIST = ["# The field engineers' four walks, and one with a refused frame. README.md, \"A walk of your own\", says what the lines are. Above each frame stands what happens."]
+LIST = ["# The field engineers' four walks, one with a mistyped frame, and two over a full booking. README.md, \"A walk of your own\", says what the lines are. Above each frame stands what happens."]
 
 # ---- the one booking of the walks, "bay 1"
 
-NEEDS_ACTION, ACCEPTED = b"\0", b"\1"
+NEEDS_ACTION, ACCEPTED, DECLINED = b"\0", b"\1", b"\2"
 RESOURCE = text(b"bay 1")
 HAULIER = text(b"haulier@road")
 
 class Booking:
-    """At a revision: the tag of its times (800 for the slot at eight), its load in tonnes, the haulier's answer."""
-    def __init__(self, revision, times, load=36, answer=NEEDS_ACTION):
+    """At a revision: the tag of its times (800 for the slot at eight), its load in tonnes, the haulier's answer, and other parts that are given."""
+    def __init__(self, revision, times, load=36, answer=NEEDS_ACTION, **given):
         self.revision = text(b"r%d" % revision)
         self.given = dict(title=some(text(b"pellets")), times=number(times), attendees=several([attendee(address=HAULIER, participation=answer)]),
                           location=some(RESOURCE), description=some(number(load)))
+        self.given.update(given)
 
     def fields(self): return fields(**self.given)
     def event(self): return event(id=RESOURCE, revision=some(self.revision), mapper=number(1, 4), **self.given)
@@ -89,10 +90,11 @@ def update_asked(request, booking): return b"\0" + number(request) + b"\4" + RES
 def applied(id, conflicts=(), refused=()): return b"\1\2" + text(id) + several(conflicts) + several(refused)
 def expired(id): return b"\1\4" + text(id)
 
-# What was in conflict or refused over the times.
-TIMES = b"\1"
+# What was in conflict or refused.
+TITLE, TIMES, ATTENDEES = b"\0", b"\1", b"\4"
 def times_conflict(base, ours, theirs): return TIMES + b"\0" + b"".join(TIMES + number(n) for n in (base, ours, theirs))
-TIMES_REFUSED = TIMES + b"\0"
+TITLE_REFUSED, TIMES_REFUSED = TITLE + b"\0", TIMES + b"\0"
+def attendee_refused(address): return ATTENDEES + some(address)
 
 # ---- (a)
 
@@ -203,7 +205,60 @@ check("nothing is in flight, and there is no cursor", in_flight(0), NO_CURSOR)
 sync("the right digits")
 check("one listing is asked for", sent(listing_asked(0)), in_flight(1))
 
-LIST.extend(["", "all five walks hold."])
+# ---- (f) and (g), where the booking is full: it has eight attendees, the most that there may be
+
+# The haulier's address as the booking has it. The haulier's edit spells it in small letters.
+SPELLED = text(b"Haulier@Road")
+LOADER, GUARD, DRIVER = text(b"loader@mill"), text(b"guard@mill"), text(b"driver@road")
+
+def attended(revision, *last, own={}, loader={}, **given):
+    """The slot at eight with seven attendees, the haulier the second, and the last behind them."""
+    others = [attendee(address=text(name + b"@mill")) for name in (b"gate", b"scale", b"silo", b"lab")]
+    seven = [attendee(address=text(b"clerk@mill")), attendee(address=SPELLED, **own), attendee(address=LOADER, **loader), *others]
+    return Booking(revision, 800, attendees=several(seven + [attendee(address=address) for address in last]), **given)
+
+def all_changed(revision):
+    """What the update makes of the seven: another title, the haulier's name and answer, the loader's answer, the driver as the eighth, other reminders."""
+    return attended(revision, DRIVER, own=dict(name=some(text(b"Road Ltd")), participation=ACCEPTED), loader=dict(participation=DECLINED),
+                    title=some(text(b"meal")), reminders=number(30))
+
+def answer_changed(revision):
+    """The full booking with the haulier's own answer and reminders."""
+    return attended(revision, GUARD, own=dict(participation=ACCEPTED), reminders=number(30))
+
+def opening_with_seven():
+    sync()
+    page("the page: the slot at eight, with seven attendees", 0, attended(1), b"monday")
+
+walk("(f) Let a haulier change more than their own answer",
+     "only the haulier's own answer and reminders are written. All else stays as it was read, no attendee is added or removed, and what was refused is told.")
+opening_with_seven()
+mark()
+edited("the haulier accepts and sets reminders, but also changes the title, their own name and the loader's answer, and adds the driver", b"haulier",
+       attended(1), all_changed(1), role=some(HAULIER))
+found("it is read: the mill has added the guard, so there are eight attendees", 1, attended(2, GUARD))
+check("one update is asked for: what was read, but for the haulier's own answer and the reminders", sent(update_asked(2, answer_changed(2))), writes(1))
+answered("and written", 2, answer_changed(3))
+check('"haulier" is told once, Applied, with the title, their own name, the loader\'s answer and the driver refused', told("haulier"),
+      sent(applied(b"haulier", refused=[TITLE_REFUSED, attendee_refused(SPELLED), attendee_refused(LOADER), attendee_refused(DRIVER)])))
+check("the booking stands with the same eight attendees in the same order, and the haulier has accepted", record(answer_changed(3)))
+check("no edit waits and nothing is in flight", waits(0), in_flight(0))
+
+walk("(g) Let the owner make the same changes",
+     "the owner may make them all, but nine attendees are one too many: the answer to the read is refused with 6, and nothing comes of it until there is room.")
+opening_with_seven()
+mark()
+edited("the owner makes the changes of (f)", b"owner", attended(1), all_changed(1))
+found("it is read: the guard is the eighth attendee, so the driver would be the ninth", 1, attended(2, GUARD))
+refused(6)
+check("refused with 6: nothing is told or written, the edit waits and its read is in flight", told("owner", 0), writes(0), waits(1), in_flight(1))
+found("it is read again: the mill has taken the guard off", 1, attended(3))
+check("one update is asked for, with all the changes", sent(update_asked(2, all_changed(3))), writes(1))
+answered("and written", 2, all_changed(4))
+check('"owner" is told once, Applied, with nothing refused', told("owner"), sent(applied(b"owner")))
+check("the booking stands with all the changes", record(all_changed(4)))
+
+LIST.extend(["", "all seven walks hold."])
 
 [place] = usage.words(__doc__, usage.folder)
 open(place + "/stdin", "w").write("".join(line + "\n" for line in LIST))
