@@ -25,7 +25,7 @@ use Rattle.model.proofs.Calm.{Calm, NoUpdate, same-calm, in-pass-holds,
 
 pub record Lively (R : ℕ → Type 0) (P : Machine → Type 0) : Type 0 where
   pub calmly : Calm R P
-  pub numbered : R 4
+  pub no-number : R 4
   pub no-room : R 7
   pub edits : (v : Map ResourceId Queue) (m : Machine) → P m → P (set-edits v m)
   pub in-flight : (v : Map RequestId Purpose) (m : Machine) → P m → P (set-in-flight v m)
@@ -41,12 +41,12 @@ module _ {R : ℕ → Type 0} {P : Machine → Type 0} (lively : Lively R P) whe
   and-then : {r : Run} {f : Machine → Run} → Ends R P r → ((m : Machine) → P m → Ends R P (f m)) → Ends R P (Rattle.model.specs.Machine._>>=_ r f)
   and-then h k = bind h k
 
-  full : R 5
-  full = lively .calmly .full
+  no-place : R 5
+  no-place = lively .calmly .no-place
 
   within-lively : {A : Type 0} (limit : ℕ) (table : List A) (set : List A → Machine → Machine) (m : Machine) → P (set table m)
       → Ends R P (Rattle.model.specs.Machine.within limit table set m)
-  within-lively limit table set m h = within-ends full limit table set m h
+  within-lively limit table set m h = within-ends no-place limit table set m h
 
   aliases-keeps : (v : Map ResourceId ResourceId) (m : Machine) → P m → P (set-aliases v m)
   aliases-keeps v m h = lively .calmly .aliases v m h
@@ -91,7 +91,7 @@ module _ {R : ℕ → Type 0} {P : Machine → Type 0} (lively : Lively R P) whe
       go false = lively .sends _ _ m tt h
 
   -- the set that `search` is given: the statements, and the functions already done
-  ruleset walks = (and-then, branch, choose, holds, stopped, full, within-lively, tells-ends, aliases-keeps, learn-ends, doubt-ends, observe-write-ends, set-queue-keeps, change-head-keeps, creates, read-for-edit-ends)
+  ruleset walks = (and-then, branch, choose, holds, stopped, no-place, within-lively, tells-ends, aliases-keeps, learn-ends, doubt-ends, observe-write-ends, set-queue-keeps, change-head-keeps, creates, read-for-edit-ends)
 
   notify-ends : (done : Pending) (rejection : Option Rejection) (m : Machine) → P m → Ends R P (notify done rejection m)
   unfolding notify
@@ -200,7 +200,7 @@ module _ {R : ℕ → Type 0} {P : Machine → Type 0} (lively : Lively R P) whe
       → P m → Ends R P (edit-read-found rid resource theirs m)
   unfolding edit-read-found
   edit-read-found-ends rid resource theirs m planned h =
-      let still = same-calm (lively .numbered) full (lively .no-room) (m .state .edits) in
+      let still = same-calm (lively .no-number) no-place (lively .no-room) (m .state .edits) in
       branch _ (branch _ (read-for-edit-ends resource m h) (doubt-ends resource m h))
       (bind (both (branch _ (learn-ends resource m h) (observe-holds (lively .calmly) resource theirs m h))
       (branch _ (learn-holds still resource m refl) (observe-holds still resource theirs m refl)))

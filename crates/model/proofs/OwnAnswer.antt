@@ -14,7 +14,7 @@ use Rattle.model.specs.Shapes.{participationFrom}
 use Rattle.model.specs.Maps.{if_then_else_, same-text, map, filter, is-some}
 use Rattle.model.specs.Formats.{Bytes, tag, shortText, u32, organizerF, attendeeRoleF, participationF, kindF, attendeeF, statusF, transparencyF, visibilityF, fieldsF, idsF, eventF}
 use Rattle.model.specs.Merge.{unreported, merge-part, rest, with-participation, whole-entry, own-removed, own-reply, own-standing, own-entry, to-ascii-lowercase, Key, Keyed, same-key, key-of, keyed-after, keyed, find, is-own, is-owner, entry-at, entries-at, extend, key-order, merge-attendees, merge}
-use Rattle.model.specs.OwnAnswer.{own, but-reply, but-own, SameBut, end, same, free, marked, entry-marks, entries-marks, fields-marks, own-marks, marks, NothingElseMarked, OnlyOwn, OnlyOwnAnswer}
+use Rattle.model.specs.OwnAnswer.{own, but-reply, but-own, SameBut, end, equal-byte, any-byte, marked, entry-marks, entries-marks, fields-marks, own-marks, marks, NothingElseMarked, OnlyOwn, OnlyOwnAnswer}
 use Rattle.model.proofs.MergeKeys.{weigh-append, one-if, hits, Distinct, keys, entries, same-key-self, same-key-turned, keys-append, keyed-distinct, entries-keyed}
 use Rattle.model.proofs.MergeReports.{part-theirs}
 
@@ -185,8 +185,8 @@ module _ (address : Text) where
 as-it-was : (mark : Bool) (x : Bytes) → SameBut (marked mark x) x x
 unfolding marked map
 as-it-was mark [] = end
-as-it-was false (b ∷ x) = same b (as-it-was false x)
-as-it-was true (b ∷ x) = free b b (as-it-was true x)
+as-it-was false (b ∷ x) = equal-byte b (as-it-was false x)
+as-it-was true (b ∷ x) = any-byte b b (as-it-was true x)
 
 stays : {A : Type 0} (f : Format A) (x : A) → SameBut (marked false (f .enc x)) (f .enc x) (f .enc x)
 stays f x = as-it-was false (f .enc x)
@@ -197,13 +197,13 @@ unfolding marked map
 changes [] [] e = end
 changes [] (c ∷ y) e = absurd (no-sum (length y) (omega (arith, e)))
 changes (b ∷ x) [] e = absurd (no-sum (length x) (omega (arith, e)))
-changes (b ∷ x) (c ∷ y) e = free b c (changes x y (omega (arith, e)))
+changes (b ∷ x) (c ∷ y) e = any-byte b c (changes x y (omega (arith, e)))
 
 infixr 5 _and-then_
 _and-then_ : {m n : List Bool} {x y u v : Bytes} → SameBut m x y → SameBut n u v → SameBut (m ++ n) (x ++ u) (y ++ v)
 end and-then k = k
-same b h and-then k = same b (h and-then k)
-free b c h and-then k = free b c (h and-then k)
+equal-byte b h and-then k = equal-byte b (h and-then k)
+any-byte b c h and-then k = any-byte b c (h and-then k)
 
 number-long : (w x : ℕ) → length (bigEndian w x) ≡ w
 number-long zero x = refl
@@ -214,7 +214,7 @@ unfolding number
 tags-change x y = changes _ _ (number-long 8 x ∙ sym (number-long 8 y))
 
 reply-changes : (mark : Bool) (b c : ℕ) → mark ≡ true → SameBut (mark ∷ []) (b ∷ []) (c ∷ [])
-reply-changes true b c e = free b c end
+reply-changes true b c e = any-byte b c end
 reply-changes false b c e = absurd (true≢false (sym e))
 
 module _ (address : Text) where
@@ -234,7 +234,7 @@ module _ (address : Text) where
 
 -- the count of the entries is the same
 counted : (n m : ℕ) {marks : List Bool} {x y : Bytes} → m ≡ n → SameBut marks x y → SameBut (false ∷ marks) (n ∷ x) (m ∷ y)
-counted n m e h = rw e (same n h)
+counted n m e h = rw e (equal-byte n h)
 
 -- theirs with another list of attendees, and other reminders
 answered : ProviderEvent → List Attendee → Tag → ProviderEvent

@@ -118,7 +118,7 @@ module _ (s : SyncState) (input : Input) where
   calmly : Calm Why Good
   unfolding Good set-records set-pass set-learned set-learned-all set-aliases drop-in-flight set-in-flight
   calmly = record {
-    full = why-5;
+    no-place = why-5;
     records = λ v m h. h;
     pass = λ v m h. h;
     learned = λ v m h. h;
@@ -133,7 +133,7 @@ module _ (s : SyncState) (input : Input) where
   unfolding Good set-edits set-in-flight set-now
   lively = record {
     calmly = calmly;
-    numbered = why-4;
+    no-number = why-4;
     no-room = why-7;
     edits = λ v m h. h;
     in-flight = λ v m h. h;

@@ -22,7 +22,7 @@ use Rattle.model.specs.Demands.{effects-of}
 
 -- ---- two events
 
--- an entry with the writer's folded address
+-- whether an entry has the writer's folded address
 unfoldable pub own : Text → Attendee → Bool
 own address a = same-text (to-ascii-lowercase address) (to-ascii-lowercase (a .address))
 
@@ -57,8 +57,8 @@ but-own address e = record {
 -- as many bytes, and the same but where a mark is true
 pub data SameBut : List Bool → Bytes → Bytes → Type 0 where
   end : SameBut [] [] []
-  same : {m : List Bool} {x y : Bytes} (b : ℕ) → SameBut m x y → SameBut (false ∷ m) (b ∷ x) (b ∷ y)
-  free : {m : List Bool} {x y : Bytes} (b c : ℕ) → SameBut m x y → SameBut (true ∷ m) (b ∷ x) (c ∷ y)
+  equal-byte : {m : List Bool} {x y : Bytes} (b : ℕ) → SameBut m x y → SameBut (false ∷ m) (b ∷ x) (b ∷ y)
+  any-byte : {m : List Bool} {x y : Bytes} (b c : ℕ) → SameBut m x y → SameBut (true ∷ m) (b ∷ x) (c ∷ y)
 
 -- one mark for every byte of a part
 unfoldable pub marked : Bool → Bytes → List Bool
@@ -81,7 +81,7 @@ unfoldable pub entries-marks : Text → List Attendee → List Bool
 entries-marks address [] = []
 entries-marks address (a ∷ l) = entry-marks address a then entries-marks address l
 
--- the bytes of an event's fields, of the attendees' count byte among them: the reminders are marked
+-- the bytes of an event's fields, the attendees' count byte among them: the reminders are marked too
 unfoldable pub fields-marks : Text → NormalizedEvent → List Bool
 fields-marks address f =
     marked false (option shortText .enc (f .title))
