@@ -82,6 +82,8 @@ def totals(lines):
 
 # ---- random cases
 
+MOST = 8                                             # attendees of an event
+
 # Each person in spellings that fold alike. Some have nearly another's address: by a byte that is no letter, a letter beyond ASCII, or the length.
 PEOPLE = [["a@m", "A@m", "A@M"], ["z[@", "Z[@"], ["b@m", "B@m"], ["z{@", "Z{@"], ["z[`", "Z[`"], ["a@mm", "A@mM"], ["a@"], ["\u00e9"], ["\u00c9"], [""], ["c"], ["d"]]
 TAGS = [0, 1, 0x100, 0x0102030405060708, 2 ** 64 - 1]
@@ -100,7 +102,7 @@ def edited(r, entries, people, replies):
         for name, chance in dict(address=0.2, name=0.1, role=0.05, participation=replies, kind=0.1).items():
             if r.random() < chance: e[name] = other[name]
     if entries and r.random() < 0.2: entries.pop(r.randrange(len(entries)))
-    if len(entries) < 8 and r.random() < 0.4: entries.insert(r.randrange(len(entries) + 1), entry(r, people))
+    if len(entries) < MOST and r.random() < 0.4: entries.insert(r.randrange(len(entries) + 1), entry(r, people))
     if r.random() < 0.15: r.shuffle(entries)
     return entries
 
@@ -108,11 +110,11 @@ def laid(units, entries, reminders):
     return b"".join(units[:4]) + bytes([len(entries)]) + b"".join(b"".join(e.values()) for e in entries) + b"".join(units[5:10]) + num(reminders)
 
 def sides(r, people):
-    """The attendees of base, ours and theirs. Most other replies are in ours. Where theirs has eight, ours mostly has one that would be the ninth."""
+    """The attendees of base, ours and theirs. Most other replies are in ours. Where theirs is full, ours mostly has one that would be one too many."""
     crowd = r.random() < 0.12
-    start = [entry(r, people) for _ in range(7 if crowd else r.choice([0, 1, 2, 2, 3, 3, 4]))]
+    start = [entry(r, people) for _ in range(MOST - 1 if crowd else r.choice([0, 1, 2, 2, 3, 3, 4]))]
     ours, theirs = edited(r, start, people, 0.6), edited(r, start, people, 0.2)
-    if crowd: ours, theirs = (side[:7] + [entry(r, PEOPLE)] for side in (ours, start))
+    if crowd: ours, theirs = (side[:MOST - 1] + [entry(r, PEOPLE)] for side in (ours, start))
     return start, ours, theirs
 
 def case(r):

@@ -1,7 +1,7 @@
 //! Random merges under the attendee role.
 use super::{Gen, PROFILES, Rng};
 use crate::engine::Engine;
-use crate::limited::{Operation, Role};
+use crate::limited::{Operation, Role, codec};
 use calendar_sync_model::{Attendee, NormalizedEvent, ProviderEvent};
 
 /// What an attendee's edit is merged from.
@@ -32,10 +32,10 @@ impl Gen<'_> {
         AttendeeMerge { base, ours, theirs, address }
     }
 
-    /// Puts some entries in once more, a little changed, as long as there are at most eight.
+    /// Puts some entries in once more, a little changed, as long as there is room.
     fn twice(&mut self, list: &mut Vec<Attendee>) {
         for _ in 0..self.rng.below(3) {
-            if list.is_empty() || list.len() == 8 {
+            if list.is_empty() || list.len() == usize::from(codec::ATTENDEES) {
                 return;
             }
             let mut again = self.rng.pick(list).clone();
