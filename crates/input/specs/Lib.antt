@@ -2,3 +2,5 @@
 pub mod Input
 -- What the functions promise.
 pub mod Ready
+-- What a program holds after some lines of some input.
+pub mod Served

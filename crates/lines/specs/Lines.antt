@@ -43,6 +43,10 @@ held none = []
 abbrev pub max-digits : ℕ
 max-digits = 16384
 
+-- the bytes of the longest frame
+abbrev pub max-frame : ℕ
+max-frame = 8192
+
 -- the frame that a line holds. A line that holds none has the empty frame, which is no input
 unfoldable pub frame-of : List ℕ → List ℕ
 frame-of line = cond (leb (length line) max-digits) (held (undigits line)) []

@@ -3,7 +3,7 @@ ghost use mathlib.Core.Path.{_≡_};
 ghost use mathlib.Core.List.{[], _∷_, _++_};
 ghost use Prim.Native.Nat.{_+_, _≤_, _<_};
 ghost use lib.ListN.{length, take, drop};
-ghost use Rattle.lines.specs.Lines.{digit, digits, value, pair, frame-of, line-length, Puts};
+ghost use Rattle.lines.specs.Lines.{digit, digits, value, pair, frame-of, line-length, max-frame, Puts};
 ghost use Rattle.lines.specs.Pairs.{meantPair};
 
 // The most digits of a line that holds a frame.
@@ -62,8 +62,8 @@ fn byte_of(a: u8, b: u8) -> Pair
 
 // Writes the frame that the line holds, and answers its length: 0 where it holds none.
 pub fn frame_of(line: &[u8], frame: &mut [u8]) -> usize
-    requires { ⌜ 8192 ≤ length (now frame) ⌝ }
-    ensures { λ r. ⌜ (r ≤ 8192) × (take r (now (frame .exit)) ≡ frame-of (now (line .entry))) ⌝ }
+    requires { ⌜ max-frame ≤ length (now frame) ⌝ }
+    ensures { λ r. ⌜ (r ≤ max-frame) × (take r (now (frame .exit)) ≡ frame-of (now (line .entry))) ⌝ }
 {
     if MAX_DIGITS < line.len() {
         return 0;

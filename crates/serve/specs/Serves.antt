@@ -1,8 +1,8 @@
--- What is written for a line, the state after lines, and what the functions promise. Assumes nothing.
+-- What is written for a line, the state after it, and what the functions promise. Assumes nothing.
 use Prim.Native.Nat.{ℕ, _+_, _*_, _≤_}
 use mathlib.Core.Path.{_≡_}
 use mathlib.Core.Bool.{Bool, cond}
-use mathlib.Core.List.{List, [], _∷_, _++_}
+use mathlib.Core.List.{[], _++_}
 use lib.ListN.{length, take}
 use Rattle.lines.specs.Lines.{frame-of}
 use Rattle.model.specs.Limits.{document01, max-effects}
@@ -11,7 +11,6 @@ use Rattle.model.specs.Entry.{step-bytes}
 use Rattle.looks.specs.Look.{look-line, look-bytes}
 use Rattle.program.specs.Program.{answer-text, bytes-after}
 use Rattle.program.specs.Answers.{Buffers}
-use Rattle.input.specs.Input.{handed-out}
 
 -- the state's bytes after a line
 unfoldable pub after-line : Bytes → Bytes → Bytes
@@ -20,11 +19,6 @@ after-line state line = bytes-after state (step-bytes document01 state (frame-of
 -- the answer to a line and, where that is asked for, what can be read of the state then
 unfoldable pub reply : Bool → Bytes → Bytes → Bytes
 reply look state line = answer-text (step-bytes document01 state (frame-of line)) ++ cond look (look-line (after-line state line)) []
-
--- the state's bytes after lines
-unfoldable pub after-lines : Bytes → List Bytes → Bytes
-after-lines state [] = state
-after-lines state (line ∷ lines) = after-lines (after-line state line) lines
 
 -- the most bytes that are written for a line: its answer's own line, three bytes in digits, at most two digits and a line feed for each byte of
 -- the effects, and what can be read of the state
@@ -46,9 +40,3 @@ pub record Replies (look : Bool) (line state state′ text′ : Bytes) (r : ℕ)
 pub record Replied (look : Bool) (line state state′ text′ : Bytes) : Type 0 where
   pub length-of : ℕ
   pub is : Replies look line state state′ text′ length-of
-
--- the state is that after some lines of some input
-pub record Served (limit : ℕ) (state state′ : Bytes) : Type 0 where
-  pub calls : ℕ
-  pub chunks : List Bytes
-  pub is : state′ ≡ after-lines state (handed-out limit calls chunks)

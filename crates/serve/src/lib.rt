@@ -1,7 +1,8 @@
 // The program of docs/FRAMES.md, "The program's lines", over standard input and output: each line is answered before more is read.
 use libc::STDOUT_FILENO;
 ghost use lib.ListN.{length};
-ghost use Rattle.serve.specs.Serves.{Lent, Replies, Replied, Served};
+ghost use Rattle.input.specs.Served.{Served};
+ghost use Rattle.serve.specs.Serves.{after-line, Lent, Replies, Replied};
 
 // The longest answer, with what can be read behind it.
 const TEXT: usize = program::TEXT + looks::LOOK;
@@ -57,7 +58,7 @@ fn answer_all(
     chunk: &mut [u8],
 )
     requires { ⌜ Lent (now state) (now work) (now out) (now frame) (now text) ⌝ }
-    ensures { λ _. ⌜ Served (length (now (line .entry))) (now (state .entry)) (now (state .exit)) ⌝ }
+    ensures { λ _. ⌜ Served after-line (length (now (line .entry))) (now (state .entry)) (now (state .exit)) ⌝ }
 {
     let mut at: usize = 0;
     let mut end: usize = 0;

@@ -1,4 +1,5 @@
-use Rattle.serve.proofs.Laws.{Reading, reading-start, reading-served, served-line, reading-line}
+use Rattle.input.proofs.Serving.{Reading, reading-start, reading-served, served-line, reading-line}
+use Rattle.serve.specs.Serves.{after-line}
 use Rattle.input.specs.Ready.{between}
 use lib.Seq.{length-take-le}
 use lib.ListN.{length}
@@ -12,7 +13,7 @@ abbrev Inv-loop : tie.InvT-loop
 Inv-loop look state₀ work₀ out₀ frame₀ line₀ text₀ chunk₀ at₀ end₀ turns₀ state work out frame line text chunk at end turns =
     (length state ≡ length state₀) × (length work ≡ length work₀) × (length out ≡ length out₀) × (length frame ≡ length frame₀)
     × (length line ≡ length line₀) × (length text ≡ length text₀) × (length chunk ≡ length chunk₀)
-    × (at ≤ end) × (end ≤ length chunk₀) × Reading (length line₀) state₀ state (between at end chunk)
+    × (at ≤ end) × (end ≤ length chunk₀) × Reading after-line (length line₀) state₀ state (between at end chunk)
 
 abbrev μ-loop : tie.MeasureT-loop
 μ-loop look state₀ work₀ out₀ frame₀ line₀ text₀ chunk₀ at₀ end₀ turns₀ state work out frame line text chunk at end turns = turns
