@@ -30,27 +30,31 @@
 extern "C" {
 #endif
 
-/* The length of a state's buffer and of a work buffer, and the least length of an output buffer. */
+/* The length of a state's buffer and of a work buffer, the least length of an output buffer, and the length of a sender's buffer. */
 #define BAY_STATE_LENGTH 58543
 #define BAY_OUTPUT_LENGTH 32768
+#define BAY_SENDER_LENGTH 1582
 
 /* The same numbers from the archive, for a program that checks at its start that header and archive belong together. */
 size_t bay_state_length(void);
 size_t bay_output_length(void);
+size_t bay_sender_length(void);
 
 /*
  * What every other function returns: 0, or the refusal. Checks run 1, 2, 3; the others are met as the step goes.
- * After a refusal the state's bytes are as they were.
+ * After a refusal the bytes of the state, or of the sender, are as they were.
  */
 enum {
     BAY_ACCEPTED = 0,
     BAY_LENGTH = 1,          /* a lent buffer's length is wrong */
-    BAY_STATE = 2,           /* the bytes are not those of a well-formed state */
+    BAY_STATE = 2,           /* the bytes are not those of a well-formed state, or not those of a sender */
     BAY_FRAME = 3,           /* the bytes are not exactly one input frame */
     BAY_REQUEST_NUMBERS = 4, /* no request number is left */
     BAY_TABLE = 5,           /* a table would need one entry more than its limit */
     BAY_ATTENDEES = 6,       /* an owner's update, merged, would have over 8 attendees; an attendee's never has */
-    BAY_EFFECTS = 7          /* the effects would pass 32,768 bytes */
+    BAY_EFFECTS = 7,         /* the effects would pass 32,768 bytes */
+    BAY_MILL = 11,           /* a sender has no such mill */
+    BAY_LANE = 12            /* the mill's lane at the sender holds 24 requests */
 };
 
 /*
@@ -100,6 +104,38 @@ uint8_t bay_cursor(const uint8_t *state, size_t state_length,
 uint8_t bay_record_at(const uint8_t *state, size_t state_length, size_t place,
                       bool *found, size_t *name_at, size_t *name_length,
                       size_t *event_at, size_t *event_length);
+
+/*
+ * The sender: eight mills on one account, numbered 0 to 7, share four calls at a time. It stands after the engines. Each mill's
+ * requests enter its lane, up to 24, and go to the provider when they are granted: in turn, from the mill after the last granted
+ * (at first from 0), while fewer than four are out. A mill's requests are granted in the order in which they entered. A lane with a
+ * request waiting gets one of the next eight grants.
+ *
+ * The whole sender is its buffer, of BAY_SENDER_LENGTH bytes, as the whole state is the state buffer; docs/FRAMES.md has its bytes.
+ * Each use ends with every grant then possible, which is one at most: *granted says whether there is one, and *granted_mill and
+ * *granted_number which call may go out now; it may be another mill's. Without a grant both are 0.
+ *
+ * A use returns BAY_ACCEPTED or the first refusal met, in this order: BAY_LENGTH, BAY_STATE if no uses of a fresh sender lead to the
+ * bytes, BAY_MILL for a mill above 7, and BAY_LANE for an entry into a lane that holds 24. After a refusal the buffer is as it was, and
+ * nothing is granted.
+ */
+
+/* Makes the buffer a fresh sender: empty lanes, no call out. Returns BAY_ACCEPTED, or BAY_LENGTH; the buffer is then untouched. */
+uint8_t bay_sender_fresh(uint8_t *sender, size_t sender_length);
+
+/* A request enters its mill's lane. Its number may be any. */
+uint8_t bay_sender_enter(uint8_t *sender, size_t sender_length, uint8_t mill, uint64_t number,
+                         bool *granted, uint8_t *granted_mill, uint64_t *granted_number);
+
+/* The reply to a call has come: one call of this mill and number is freed. Where none is out, nothing changes. */
+uint8_t bay_sender_reply(uint8_t *sender, size_t sender_length, uint8_t mill, uint64_t number,
+                         bool *granted, uint8_t *granted_mill, uint64_t *granted_number);
+
+/*
+ * The mill starts anew, as after a Resume of its engine: its lane is emptied, and its new requests enter after it. Its calls out
+ * hold their share until their reply comes, so nothing is granted.
+ */
+uint8_t bay_sender_resume(uint8_t *sender, size_t sender_length, uint8_t mill);
 
 #ifdef __cplusplus
 }

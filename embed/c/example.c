@@ -1,4 +1,7 @@
-/* Document 01's example from C: takes its five frames one by one, and prints each result number and the effects' bytes. */
+/*
+ * Document 01's example from C: takes its five frames one by one, and prints each result number and the effects' bytes. Then two mills share
+ * an account's four calls.
+ */
 #include <stdio.h>
 
 #include "bay.h"
@@ -6,6 +9,7 @@
 static uint8_t state[BAY_STATE_LENGTH];
 static uint8_t work[BAY_STATE_LENGTH];
 static uint8_t output[BAY_OUTPUT_LENGTH];
+static uint8_t sender[BAY_SENDER_LENGTH];
 
 static const uint8_t sync_now[] = {0x00};
 /* request 0 listed nothing, and is done at cursor "A" */
@@ -35,9 +39,36 @@ static void print_cursor(void)
         printf("cursor: %.*s\n", (int)length, (const char *)state + at);
 }
 
+static void print_grant(const char *what, uint8_t result, bool granted, uint8_t mill, uint64_t number)
+{
+    printf("%s: result %u", what, result);
+    if (granted)
+        printf(", mill %u may send request %llu", mill, (unsigned long long)number);
+    printf("\n");
+}
+
+static void enter(const char *what, uint8_t mill, uint64_t number)
+{
+    bool granted;
+    uint8_t to;
+    uint64_t request;
+    uint8_t result = bay_sender_enter(sender, sizeof sender, mill, number, &granted, &to, &request);
+    print_grant(what, result, granted, to, request);
+}
+
+static void reply(const char *what, uint8_t mill, uint64_t number)
+{
+    bool granted;
+    uint8_t to;
+    uint64_t request;
+    uint8_t result = bay_sender_reply(sender, sizeof sender, mill, number, &granted, &to, &request);
+    print_grant(what, result, granted, to, request);
+}
+
 int main(void)
 {
-    if (bay_state_length() != BAY_STATE_LENGTH || bay_output_length() != BAY_OUTPUT_LENGTH) {
+    if (bay_state_length() != BAY_STATE_LENGTH || bay_output_length() != BAY_OUTPUT_LENGTH
+        || bay_sender_length() != BAY_SENDER_LENGTH) {
         fprintf(stderr, "bay.h and libzagyvelon.a do not belong together\n");
         return 1;
     }
@@ -49,5 +80,18 @@ int main(void)
     step("edit", edit, sizeof edit);
     step("no input", no_input, sizeof no_input);
     print_cursor();
+
+    if (bay_sender_fresh(sender, sizeof sender) != BAY_ACCEPTED)
+        return 1;
+    for (uint64_t request = 0; request < 4; request++)
+        enter("mill 6 enters", 6, request);
+    enter("mill 6 enters", 6, 4);
+    enter("mill 1 enters", 1, 70);
+    reply("reply to mill 6", 6, 2);
+    printf("mill 6 resumes: result %u\n", bay_sender_resume(sender, sizeof sender, 6));
+    reply("reply to mill 6", 6, 0);
+    enter("mill 8 enters", 8, 0);
+    sender[BAY_SENDER_LENGTH - 1] = 8;
+    enter("no sender's bytes", 6, 5);
     return 0;
 }

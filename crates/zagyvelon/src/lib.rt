@@ -1,4 +1,4 @@
-// The engine for programs in other languages, as include/bay.h declares it. Each function has the contract of the one that it
+// The engine and the sender for programs in other languages, as include/bay.h declares it. Each function has the contract of the one that it
 // calls, and asks nothing of what it is lent. A second answer is written through a reference.
 ghost use mathlib.Core.Path.{_≡_};
 ghost use mathlib.Core.Bool.{false};
@@ -14,6 +14,10 @@ ghost use Rattle.model.specs.Entry.{entry};
 ghost use Rattle.model.specs.Demands.{waiting-count};
 ghost use Rattle.access.specs.Answers.{Answers, Freshened, nth, numbered, record-bytes};
 ghost use Rattle.engine.specs.Answers.{lent, returned};
+ghost use Rattle.sender_turns.specs.Sender.{Use};
+ghost use Rattle.sender_turns.specs.Laid.{no-call};
+ghost use Rattle.sender_bytes.specs.Bytes.{sender-length, freshened};
+ghost use Rattle.sender_bytes.specs.Read.{Uses};
 
 // The length of a state's buffer and of the work buffer.
 #[no_mangle]
@@ -111,5 +115,69 @@ pub extern "C" fn bay_record_at(
     *size = named.length;
     *event = held.at;
     *extent = held.length;
+    a.code
+}
+
+// ---- the sender
+
+// The length of a sender's buffer.
+#[no_mangle]
+pub extern "C" fn bay_sender_length() -> usize
+    ensures { λ r. ⌜ r ≡ sender-length ⌝ }
+{
+    sender_bytes::LENGTH
+}
+
+#[no_mangle]
+pub extern "C" fn bay_sender_fresh(sender: &mut [u8]) -> u8
+    ensures { λ r. ⌜ (r, now (sender .exit)) ≡ freshened (now (sender .entry)) ⌝ }
+{
+    sender_bytes::fresh(sender)
+}
+
+#[no_mangle]
+pub extern "C" fn bay_sender_enter(
+    sender: &mut [u8],
+    mill: u8,
+    number: u64,
+    granted: &mut bool,
+    to: &mut u8,
+    request: &mut u64,
+) -> u8
+    ensures { λ r. ⌜ Uses (Use.Enter mill number) (now (sender .entry)) (now (sender .exit)) (record { code = r; granted = now (granted .exit); call = record { mill = now (to .exit); number = now (request .exit) } }) ⌝ }
+{
+    let a = sender_bytes::enter(sender, mill, number);
+    let call = a.call;
+    *granted = a.granted;
+    *to = call.mill;
+    *request = call.number;
+    a.code
+}
+
+#[no_mangle]
+pub extern "C" fn bay_sender_reply(
+    sender: &mut [u8],
+    mill: u8,
+    number: u64,
+    granted: &mut bool,
+    to: &mut u8,
+    request: &mut u64,
+) -> u8
+    ensures { λ r. ⌜ Uses (Use.Reply mill number) (now (sender .entry)) (now (sender .exit)) (record { code = r; granted = now (granted .exit); call = record { mill = now (to .exit); number = now (request .exit) } }) ⌝ }
+{
+    let a = sender_bytes::reply(sender, mill, number);
+    let call = a.call;
+    *granted = a.granted;
+    *to = call.mill;
+    *request = call.number;
+    a.code
+}
+
+// A Resume grants nothing, so there is no call to tell.
+#[no_mangle]
+pub extern "C" fn bay_sender_resume(sender: &mut [u8], mill: u8) -> u8
+    ensures { λ r. ⌜ Uses (Use.Resume mill) (now (sender .entry)) (now (sender .exit)) (record { code = r; granted = false; call = no-call }) ⌝ }
+{
+    let a = sender_bytes::resume(sender, mill);
     a.code
 }

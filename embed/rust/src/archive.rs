@@ -51,6 +51,27 @@ unsafe extern "C" {
         event_at: *mut usize,
         event_length: *mut usize,
     ) -> u8;
+    safe fn bay_sender_length() -> usize;
+    fn bay_sender_fresh(sender: *mut u8, sender_length: usize) -> u8;
+    fn bay_sender_enter(
+        sender: *mut u8,
+        sender_length: usize,
+        mill: u8,
+        number: u64,
+        granted: *mut bool,
+        granted_mill: *mut u8,
+        granted_number: *mut u64,
+    ) -> u8;
+    fn bay_sender_reply(
+        sender: *mut u8,
+        sender_length: usize,
+        mill: u8,
+        number: u64,
+        granted: *mut bool,
+        granted_mill: *mut u8,
+        granted_number: *mut u64,
+    ) -> u8;
+    fn bay_sender_resume(sender: *mut u8, sender_length: usize, mill: u8) -> u8;
 }
 
 /// A part of the state's bytes.
@@ -171,4 +192,54 @@ pub fn record_at(state: &[u8], place: usize) -> (u8, Option<(Part, Part)>) {
         )
     };
     (code, found.then_some((name, event)))
+}
+
+pub fn sender_length() -> usize {
+    bay_sender_length()
+}
+
+pub fn sender_fresh(sender: &mut [u8]) -> u8 {
+    // SAFETY: pointer and length are those of one slice, which nobody else uses during the call.
+    unsafe { bay_sender_fresh(sender.as_mut_ptr(), sender.len()) }
+}
+
+/// The function of an entry or of a reply.
+type CallUse = unsafe extern "C" fn(*mut u8, usize, u8, u64, *mut bool, *mut u8, *mut u64) -> u8;
+
+/// The mill and the number of the call that was granted, if one was.
+fn call_use(
+    function: CallUse,
+    sender: &mut [u8],
+    mill: u8,
+    number: u64,
+) -> (u8, Option<(u8, u64)>) {
+    let mut granted = false;
+    let mut call = (0, 0);
+    // SAFETY: pointer and length are those of one slice, which nobody else uses during the call; `granted` and `call` are this
+    // function's own, and `granted` is written as 0 or 1.
+    let code = unsafe {
+        function(
+            sender.as_mut_ptr(),
+            sender.len(),
+            mill,
+            number,
+            &raw mut granted,
+            &raw mut call.0,
+            &raw mut call.1,
+        )
+    };
+    (code, granted.then_some(call))
+}
+
+pub fn sender_enter(sender: &mut [u8], mill: u8, number: u64) -> (u8, Option<(u8, u64)>) {
+    call_use(bay_sender_enter, sender, mill, number)
+}
+
+pub fn sender_reply(sender: &mut [u8], mill: u8, number: u64) -> (u8, Option<(u8, u64)>) {
+    call_use(bay_sender_reply, sender, mill, number)
+}
+
+pub fn sender_resume(sender: &mut [u8], mill: u8) -> u8 {
+    // SAFETY: pointer and length are those of one slice, which nobody else uses during the call.
+    unsafe { bay_sender_resume(sender.as_mut_ptr(), sender.len(), mill) }
 }

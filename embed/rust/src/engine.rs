@@ -20,12 +20,12 @@ pub struct Engine {
     output: Box<[u8]>,
 }
 
-/// Why a call was refused. The state is then as it was.
+/// Why a call was refused. The state or the sender is then as it was.
 #[derive(Clone, Copy, Debug, PartialEq, Eq)]
 pub enum Refusal {
-    /// 1: a state's bytes have another length.
+    /// 1: a state's or a sender's bytes have another length.
     Length,
-    /// 2: the bytes are not those of a well-formed state.
+    /// 2: the bytes are not those of a well-formed state, or not those of a sender.
     State,
     /// 3: the bytes are not exactly one input frame.
     Frame,
@@ -39,6 +39,10 @@ pub enum Refusal {
     Attendees,
     /// 7: the effects would pass the output.
     Effects,
+    /// 11: a sender has no such mill.
+    Mill,
+    /// 12: the mill's lane at the sender holds as many requests as it can.
+    Lane,
 }
 
 impl Refusal {
@@ -53,6 +57,8 @@ impl Refusal {
             Self::Table => 5,
             Self::Attendees => 6,
             Self::Effects => 7,
+            Self::Mill => 11,
+            Self::Lane => 12,
         }
     }
 
@@ -65,7 +71,9 @@ impl Refusal {
             5 => Self::Table,
             6 => Self::Attendees,
             7 => Self::Effects,
-            _ => unreachable!("the archive answers 0 to 7"),
+            11 => Self::Mill,
+            12 => Self::Lane,
+            _ => unreachable!("the archive answers 0 to 7, 11 and 12"),
         }
     }
 }
@@ -73,14 +81,16 @@ impl Refusal {
 impl fmt::Display for Refusal {
     fn fmt(&self, f: &mut fmt::Formatter<'_>) -> fmt::Result {
         f.write_str(match self {
-            Self::Length => "a state's bytes have another length",
-            Self::State => "the bytes are no well-formed state",
+            Self::Length => "the bytes have another length",
+            Self::State => "the bytes are no well-formed state, or no sender's",
             Self::Frame => "the bytes are not exactly one input frame",
             Self::Input(_) => "the input has no frame",
             Self::RequestNumbers => "no request number is left",
             Self::Table => "a table is full",
             Self::Attendees => "the merged event has too many attendees",
             Self::Effects => "the effects are too long",
+            Self::Mill => "a sender has no such mill",
+            Self::Lane => "the mill's lane is full",
         })
     }
 }
@@ -101,16 +111,16 @@ impl From<EncodeError> for Refusal {
 }
 
 /// What a function of the archive answers, by its result number.
-fn answer<T>((number, value): (u8, T)) -> Result<T, Refusal> {
+pub(crate) fn answer<T>((number, value): (u8, T)) -> Result<T, Refusal> {
     match number {
         0 => Ok(value),
         refused => Err(Refusal::numbered(refused)),
     }
 }
 
-/// What a function of the archive answers that cannot refuse: an engine's state and buffers are right.
-fn accepted<T>(answered: (u8, T)) -> T {
-    answer(answered).expect("an engine's state and buffers are right")
+/// What a function of the archive answers that cannot refuse: an engine's state and buffers, or a sender's bytes, are right.
+pub(crate) fn accepted<T>(answered: (u8, T)) -> T {
+    answer(answered).expect("the state and the buffers are right")
 }
 
 /// What the archive wrote into an engine's state or output.

@@ -6,6 +6,7 @@
 //! - `step(state, input)` and `SyncState::apply` are [`Engine::step`]; a step may be refused ([`Refusal`]), and then changes nothing.
 //! - Times, recurrence, description, reminders and passthrough are 64-bit tags ([`EventTimes`] and its kin): the application keeps
 //!   the values, equal tags for equal values and unequal ones for unequal.
+//! - Eight mills on one account share the provider's calls through a [`Sender`].
 //! - Texts and lists have limits ([`MAX_TEXT`] and its kin). What passes one is an [`EncodeError`]; nothing is cut short.
 //!
 //! ```
@@ -27,6 +28,7 @@ mod frame;
 mod merge;
 mod provider;
 mod seam;
+mod sender;
 mod sync;
 
 pub use engine::{Engine, Refusal};
@@ -45,4 +47,5 @@ pub use provider::{
 pub use seam::{
     Change, Cursor, Failure, ListFrom, Next, Outcome, Page, Request, RequestId, ResourceId,
 };
+pub use sender::{Call, Sender};
 pub use sync::{Edit, EditId, Effect, Input, Notice, Operation, Rejection, Timestamp};

@@ -3,3 +3,4 @@
 mod engine;
 mod frames;
 mod random;
+mod sender;
