@@ -8,4 +8,5 @@ pub mod checks;
 pub mod cover;
 pub mod engine;
 pub mod frames;
+pub mod sender;
 pub mod view;

@@ -2,7 +2,7 @@
 use judge::cover::{self, Cover};
 use judge::engine::{self, Answer, Engine};
 use judge::view::hex;
-use judge::{attendee, checks, frames, limited};
+use judge::{attendee, checks, frames, limited, sender};
 use std::io::{self, BufRead, Write};
 use std::process::ExitCode;
 
@@ -21,7 +21,9 @@ const USAGE: &str = "usage:
               profile, seed, the frame that first reaches it, situation; then, after '-', the ones that no run reaches
   judge check [--frames]                       document 01's lines, against the published Rust; with the frames used
   judge attendee [--seed S] [--merges N]       whether an attendee's merge changes only the writer's own answer: every
-              merge of lists of at most two, and N random ones (500000)";
+              merge of lists of at most two, and N random ones (500000)
+  judge sender                                 uses of a sender on standard input, answers on standard output
+  judge sender-gen --seed S --steps N          random uses for it, some lines damaged";
 
 struct Args(Vec<String>);
 
@@ -66,6 +68,8 @@ fn main() -> ExitCode {
         "reach" => reach(&args, &mut out),
         "check" => checks::run(&mut out, args.has("--frames")),
         "attendee" => attendee::run(&mut out, args.number("--seed", 1), args.number("--merges", 500_000) as usize),
+        "sender" => sender::run(&mut out),
+        "sender-gen" => sender::generate(&mut out, args.number("--seed", 1), args.steps()),
         _ => die(USAGE),
     };
     // Only a reader that has gone away makes writing fail.
