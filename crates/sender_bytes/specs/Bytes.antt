@@ -84,7 +84,7 @@ unfoldable pub returned : List ℕ → Answer → Returned
 returned bytes (Answer.Refused n) = refused n bytes
 returned bytes (Answer.Done t) = record { code = 0; grant = one-told (t .grants); bytes = senderF .enc (t .sender) }
 
--- a use: refusal 1 for a wrong length, then 2 for bytes that are no sender's, then what the use of the sender answers. A refusal touches nothing
+-- a use: refusal 1 for a wrong length, then 2 for bytes that are no sender's, then what the use of the sender answers. A refusal leaves the buffer as it was
 unfoldable pub used-bytes : Use → List ℕ → Returned
 used-bytes u bytes =
     if eqb (length bytes) sender-length then (match read-sender bytes none: refused 2 bytes some: (λ s. returned bytes (used u s)))

@@ -21,7 +21,7 @@ use Rattle.sender_bytes.proofs.StructLaws.{to-digits}
 use Rattle.sender_turns.specs.Sender.{Use}
 use Rattle.sender_turns.specs.Laid.{no-call, one-told}
 use Rattle.sender_turns.specs.declared.Call.{Call as CallStruct}
-use Rattle.sender_bytes.specs.Bytes.{Returned, refused}
+use Rattle.sender_bytes.specs.Bytes.{number-bytes, call-bytes, Returned, refused}
 use Rattle.sender_bytes.specs.Read.{Uses}
 use Rattle.sender_bytes.specs.declared.Granted.{Granted}
 use Rattle.sender_lines.specs.Answers.{UseCases, useTo, useFrom, millF, useF, answered, line, grant-text, reply, after-line}
@@ -43,7 +43,7 @@ use-back (inr (inr (inr x))) = absurd x
 pub useF-law : Lawful useF
 unfolding useF millF
 useF-law =
-    let call = pair-law (below-law 256) (number-law 8) in
+    let call = pair-law (below-law 256) (number-law number-bytes) in
     via-law (enum-law (case-law call (case-law call (case-law (below-law 256) noCase-law)))) useTo useFrom use-there (λ c ok. use-back c)
 
 -- bytes that are no use's are no use
@@ -55,28 +55,28 @@ no-use s n = go (wholeOf useF s) refl
     go (some u) e = absurd (n u (whole-enc useF-law s u e .1))
 
 module _ (s : List ℕ) where
-  wrong-length : (length s ≡ 10 → ⊥) → (length s ≡ 2 → ⊥) → (u : Use) → s ≡ useF .enc u → ⊥
+  wrong-length : (length s ≡ 1 + call-bytes → ⊥) → (length s ≡ 2 → ⊥) → (u : Use) → s ≡ useF .enc u → ⊥
   unfolding useF millF via enum _∣_ _⊗_ below number
   wrong-length call mill (Use.Enter m n) e = call (ap length e)
   wrong-length call mill (Use.Reply m n) e = call (ap length e)
   wrong-length call mill (Use.Resume m) e = mill (ap length e)
 
-  pub neither : (length s ≡ 10 → ⊥) → (length s ≡ 2 → ⊥) → none ≡ wholeOf useF s
+  pub neither : (length s ≡ 1 + call-bytes → ⊥) → (length s ≡ 2 → ⊥) → none ≡ wholeOf useF s
   neither call mill = no-use s (wrong-length call mill)
 
-  wrong-call : length s ≡ 10 → (getD s 0 0 ≡ 0 → ⊥) → (getD s 0 0 ≡ 1 → ⊥) → (u : Use) → s ≡ useF .enc u → ⊥
+  wrong-call : length s ≡ 1 + call-bytes → (getD s 0 0 ≡ 0 → ⊥) → (getD s 0 0 ≡ 1 → ⊥) → (u : Use) → s ≡ useF .enc u → ⊥
   unfolding useF millF via enum _∣_ _⊗_ below number
   wrong-call l enter reply (Use.Enter m n) e = enter (ap (λ (b : List ℕ). getD b 0 0) e)
   wrong-call l enter reply (Use.Reply m n) e = reply (ap (λ (b : List ℕ). getD b 0 0) e)
   wrong-call l enter reply (Use.Resume m) e = let k : length s ≡ 2 = ap length e in omega arith
 
-  pub other-call : length s ≡ 10 → (getD s 0 0 ≡ 0 → ⊥) → (getD s 0 0 ≡ 1 → ⊥) → none ≡ wholeOf useF s
+  pub other-call : length s ≡ 1 + call-bytes → (getD s 0 0 ≡ 0 → ⊥) → (getD s 0 0 ≡ 1 → ⊥) → none ≡ wholeOf useF s
   other-call l enter reply = no-use s (wrong-call l enter reply)
 
   wrong-mill : length s ≡ 2 → (getD s 0 0 ≡ 2 → ⊥) → (u : Use) → s ≡ useF .enc u → ⊥
   unfolding useF millF via enum _∣_ _⊗_ below number
-  wrong-mill l resume (Use.Enter m n) e = let k : length s ≡ 10 = ap length e in omega arith
-  wrong-mill l resume (Use.Reply m n) e = let k : length s ≡ 10 = ap length e in omega arith
+  wrong-mill l resume (Use.Enter m n) e = let k : length s ≡ 1 + call-bytes = ap length e in omega arith
+  wrong-mill l resume (Use.Reply m n) e = let k : length s ≡ 1 + call-bytes = ap length e in omega arith
   wrong-mill l resume (Use.Resume m) e = resume (ap (λ (b : List ℕ). getD b 0 0) e)
 
   pub other-mill : length s ≡ 2 → (getD s 0 0 ≡ 2 → ⊥) → none ≡ wholeOf useF s
@@ -84,34 +84,34 @@ module _ (s : List ℕ) where
 
 -- ---- the number of eight bytes
 
-number-small : (s : List ℕ) → length s ≡ 8 → Bytes s → fromBe 0 s < 256 ^ 8
+number-small : (s : List ℕ) → length s ≡ number-bytes → Bytes s → fromBe 0 s < 256 ^ number-bytes
 number-small s l b = let h = from-bound 0 s 0 b (omega arith) in rw l at h
 
-number-read : (s : List ℕ) → length s ≡ 8 → Bytes s → bigEndian 8 (fromBe 0 s) ≡ s
-number-read s l b = sym (to-digits 8 (fromBe 0 s)) ∙ to-from 8 s l b
+number-read : (s : List ℕ) → length s ≡ number-bytes → Bytes s → bigEndian number-bytes (fromBe 0 s) ≡ s
+number-read s l b = sym (to-digits number-bytes (fromBe 0 s)) ∙ to-from number-bytes s l b
 
 -- ---- the frames that are uses
 
-call-ok : (case mill : ℕ) (s : List ℕ) → length s ≡ 8 → Bytes s → (n : ℕ) → n ≡ fromBe 0 (take 8 s) → (n < 256 ^ 8) × (case ∷ mill ∷ s ≡ case ∷ mill ∷ bigEndian 8 n)
+call-ok : (case mill : ℕ) (s : List ℕ) → length s ≡ number-bytes → Bytes s → (n : ℕ) → n ≡ fromBe 0 (take number-bytes s) → (n < 256 ^ number-bytes) × (case ∷ mill ∷ s ≡ case ∷ mill ∷ bigEndian number-bytes n)
 call-ok case mill s l b n e =
-    let f : n ≡ fromBe 0 s = e ∙ ap (fromBe 0) (take-all 8 s (omega arith)) in
+    let f : n ≡ fromBe 0 s = e ∙ ap (fromBe 0) (take-all number-bytes s (omega arith)) in
     rw f (number-small s l b, ap (λ (t : List ℕ). case ∷ mill ∷ t) (sym (number-read s l b)))
 
-pub enters : (s : List ℕ) (n : ℕ) → length s ≡ 10 → Bytes s → n ≡ fromBe 0 (take 8 (drop 2 s)) → getD s 0 0 ≡ 0 → some (Use.Enter (getD s 1 0) n) ≡ wholeOf useF s
+pub enters : (s : List ℕ) (n : ℕ) → length s ≡ 1 + call-bytes → Bytes s → n ≡ fromBe 0 (take number-bytes (drop 2 s)) → getD s 0 0 ≡ 0 → some (Use.Enter (getD s 1 0) n) ≡ wholeOf useF s
 unfolding useF millF via enum _∣_ _⊗_ below number
 enters [] n l b e f = absurd (omega arith)
 enters (x ∷ []) n l b e f = absurd (omega arith)
 enters (x ∷ mill ∷ s) n l b e f =
     let c = call-ok x mill s (omega arith) (λ i. b (suc (suc i))) n e in
-    sym (whole-dec useF-law (x ∷ mill ∷ s) (Use.Enter mill n) (b 1, c .0) (c .1 ∙ ap (λ (k : ℕ). k ∷ mill ∷ bigEndian 8 n) f))
+    sym (whole-dec useF-law (x ∷ mill ∷ s) (Use.Enter mill n) (b 1, c .0) (c .1 ∙ ap (λ (k : ℕ). k ∷ mill ∷ bigEndian number-bytes n) f))
 
-pub replies : (s : List ℕ) (n : ℕ) → length s ≡ 10 → Bytes s → n ≡ fromBe 0 (take 8 (drop 2 s)) → getD s 0 0 ≡ 1 → some (Use.Reply (getD s 1 0) n) ≡ wholeOf useF s
+pub replies : (s : List ℕ) (n : ℕ) → length s ≡ 1 + call-bytes → Bytes s → n ≡ fromBe 0 (take number-bytes (drop 2 s)) → getD s 0 0 ≡ 1 → some (Use.Reply (getD s 1 0) n) ≡ wholeOf useF s
 unfolding useF millF via enum _∣_ _⊗_ below number
 replies [] n l b e f = absurd (omega arith)
 replies (x ∷ []) n l b e f = absurd (omega arith)
 replies (x ∷ mill ∷ s) n l b e f =
     let c = call-ok x mill s (omega arith) (λ i. b (suc (suc i))) n e in
-    sym (whole-dec useF-law (x ∷ mill ∷ s) (Use.Reply mill n) (b 1, c .0) (c .1 ∙ ap (λ (k : ℕ). k ∷ mill ∷ bigEndian 8 n) f))
+    sym (whole-dec useF-law (x ∷ mill ∷ s) (Use.Reply mill n) (b 1, c .0) (c .1 ∙ ap (λ (k : ℕ). k ∷ mill ∷ bigEndian number-bytes n) f))
 
 pub resumes : (s : List ℕ) → length s ≡ 2 → Bytes s → getD s 0 0 ≡ 2 → some (Use.Resume (getD s 1 0)) ≡ wholeOf useF s
 unfolding useF millF via enum _∣_ _⊗_ below number
@@ -132,10 +132,10 @@ head-place x y z P =
     let p = P .place in
     omega arith
 
-pub puts-call : (mill n : ℕ) (s : List ℕ) {text text′ : List ℕ} {at r : ℕ} → s ≡ mill ∷ (toBe 8 n ++ []) → Puts (line s) text text′ at r → Puts (line (mill ∷ u64 .enc n)) text text′ at r
+pub puts-call : (mill n : ℕ) (s : List ℕ) {text text′ : List ℕ} {at r : ℕ} → s ≡ mill ∷ (toBe number-bytes n ++ []) → Puts (line s) text text′ at r → Puts (line (mill ∷ u64 .enc n)) text text′ at r
 unfolding number
 puts-call mill n s e P =
-    let f : s ≡ mill ∷ bigEndian 8 n = e ∙ ap (λ (t : List ℕ). mill ∷ t) (append-nil (toBe 8 n) ∙ to-digits 8 n) in
+    let f : s ≡ mill ∷ bigEndian number-bytes n = e ∙ ap (λ (t : List ℕ). mill ∷ t) (append-nil (toBe number-bytes n) ∙ to-digits number-bytes n) in
     rw f at P
 
 module _ (code : ℕ) (call : CallStruct) (text text′ : List ℕ) (r : ℕ) (room : text-bytes ≤ length text) (same : length text′ ≡ length text) where
@@ -144,10 +144,10 @@ module _ (code : ℕ) (call : CallStruct) (text text′ : List ℕ) (r : ℕ) (r
   unfolding grant-text number
   tells-grant mid at true g P Q =
       let h = line-long (code ∷ 0 ∷ 1 ∷ []) in
-      let k = line-long (call .mill ∷ bigEndian 8 (call .number)) in
+      let k = line-long (call .mill ∷ bigEndian number-bytes (call .number)) in
       let p = P .place in
       let q = Q .place in
-      let l = length-append (line (code ∷ 0 ∷ 1 ∷ [])) (line (call .mill ∷ bigEndian 8 (call .number))) in
+      let l = length-append (line (code ∷ 0 ∷ 1 ∷ [])) (line (call .mill ∷ bigEndian number-bytes (call .number))) in
       (omega arith, puts-taken (puts-then P Q (omega arith)) (omega arith))
   tells-grant mid at false g P Q = absurd (let z : _≡_ {A = ℕ} 0 1 = cc in omega arith)
 

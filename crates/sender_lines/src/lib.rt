@@ -31,6 +31,11 @@ const REPLY: u8 = 1;
 
 const RESUME: u8 = 2;
 
+// A use's case is its first byte; the mill and the number stand behind it.
+const MILL: usize = 1;
+
+const NUMBER: usize = 2;
+
 // The bytes of a use: the case and a call, or the case and a mill.
 const OF_A_CALL: usize = 1 + CALL;
 
@@ -50,8 +55,8 @@ fn of_a_call(frame: &[u8]) -> Asked
     ensures { λ r. ⌜ meantUse r ≡ wholeOf useF (now (frame .entry)) ⌝ }
 {
     let case = frame[0];
-    let mill = frame[1];
-    let number = numbers::get_be(frame, 2);
+    let mill = frame[MILL];
+    let number = numbers::get_be(frame, NUMBER);
     match case {
         ENTER => Asked::Enter(mill, number),
         REPLY => Asked::Reply(mill, number),
@@ -69,7 +74,7 @@ fn use_in(frame: &[u8]) -> Asked
         return Asked::Nothing;
     }
     if frame[0] == RESUME {
-        return Asked::Resume(frame[1]);
+        return Asked::Resume(frame[MILL]);
     }
     Asked::Nothing
 }
