@@ -109,7 +109,7 @@ uint8_t bay_record_at(const uint8_t *state, size_t state_length, size_t place,
  * The sender: eight mills on one account, numbered 0 to 7, share four calls at a time. It stands after the engines. Each mill's
  * requests enter its lane, up to 24, and go to the provider when they are granted: in turn, from the mill after the last granted
  * (at first from 0), while fewer than four are out. A mill's requests are granted in the order in which they entered. A lane with a
- * request waiting gets one of the next eight grants.
+ * request waiting gets one of the next eight grants, unless a Resume of its mill empties it.
  *
  * The whole sender is its buffer, of BAY_SENDER_LENGTH bytes, as the whole state is the state buffer; docs/FRAMES.md has its bytes.
  * Each use ends with every grant then possible, which is one at most: *granted says whether there is one, and *granted_mill and

@@ -39,30 +39,19 @@ static void print_cursor(void)
         printf("cursor: %.*s\n", (int)length, (const char *)state + at);
 }
 
-static void print_grant(const char *what, uint8_t result, bool granted, uint8_t mill, uint64_t number)
+/* bay_sender_enter or bay_sender_reply */
+typedef uint8_t call_use(uint8_t *, size_t, uint8_t, uint64_t, bool *, uint8_t *, uint64_t *);
+
+static void use(const char *what, call_use *function, uint8_t mill, uint64_t number)
 {
+    bool granted;
+    uint8_t to;
+    uint64_t request;
+    uint8_t result = function(sender, sizeof sender, mill, number, &granted, &to, &request);
     printf("%s: result %u", what, result);
     if (granted)
-        printf(", mill %u may send request %llu", mill, (unsigned long long)number);
+        printf(", mill %u may send request %llu", to, (unsigned long long)request);
     printf("\n");
-}
-
-static void enter(const char *what, uint8_t mill, uint64_t number)
-{
-    bool granted;
-    uint8_t to;
-    uint64_t request;
-    uint8_t result = bay_sender_enter(sender, sizeof sender, mill, number, &granted, &to, &request);
-    print_grant(what, result, granted, to, request);
-}
-
-static void reply(const char *what, uint8_t mill, uint64_t number)
-{
-    bool granted;
-    uint8_t to;
-    uint64_t request;
-    uint8_t result = bay_sender_reply(sender, sizeof sender, mill, number, &granted, &to, &request);
-    print_grant(what, result, granted, to, request);
 }
 
 int main(void)
@@ -84,14 +73,14 @@ int main(void)
     if (bay_sender_fresh(sender, sizeof sender) != BAY_ACCEPTED)
         return 1;
     for (uint64_t request = 0; request < 4; request++)
-        enter("mill 6 enters", 6, request);
-    enter("mill 6 enters", 6, 4);
-    enter("mill 1 enters", 1, 70);
-    reply("reply to mill 6", 6, 2);
+        use("mill 6 enters", bay_sender_enter, 6, request);
+    use("mill 6 enters", bay_sender_enter, 6, 4);
+    use("mill 1 enters", bay_sender_enter, 1, 70);
+    use("reply to mill 6", bay_sender_reply, 6, 2);
     printf("mill 6 resumes: result %u\n", bay_sender_resume(sender, sizeof sender, 6));
-    reply("reply to mill 6", 6, 0);
-    enter("mill 8 enters", 8, 0);
+    use("reply to mill 6", bay_sender_reply, 6, 0);
+    use("mill 8 enters", bay_sender_enter, 8, 0);
     sender[BAY_SENDER_LENGTH - 1] = 8;
-    enter("no sender's bytes", 6, 5);
+    use("no sender's bytes", bay_sender_enter, 6, 5);
     return 0;
 }

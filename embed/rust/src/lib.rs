@@ -6,7 +6,6 @@
 //! - `step(state, input)` and `SyncState::apply` are [`Engine::step`]; a step may be refused ([`Refusal`]), and then changes nothing.
 //! - Times, recurrence, description, reminders and passthrough are 64-bit tags ([`EventTimes`] and its kin): the application keeps
 //!   the values, equal tags for equal values and unequal ones for unequal.
-//! - Eight mills on one account share the provider's calls through a [`Sender`].
 //! - Texts and lists have limits ([`MAX_TEXT`] and its kin). What passes one is an [`EncodeError`]; nothing is cut short.
 //!
 //! ```
@@ -19,6 +18,8 @@
 //! assert_eq!(engine.in_flight().collect::<Vec<_>>(), [*id]);
 //! # Ok::<(), bay::Refusal>(())
 //! ```
+//!
+//! Where several mills share one account, their requests go through a [`Sender`], which grants them the provider's calls in turn.
 
 mod archive;
 mod engine;
