@@ -1,4 +1,4 @@
--- What the loop over the lines promises. Assumes nothing.
+-- What is lent for a line, and what was written for it. Assumes nothing.
 use Prim.Native.Nat.{ℕ, _≤_}
 use mathlib.Core.List.{List}
 use lib.ListN.{length}
