@@ -78,7 +78,7 @@ fn event_of(bytes: &[u8]) -> &[u8]
     comparison::part(bytes, 0, to)
 }
 
-fn is_owner(role: &[u8]) -> bool
+pub fn is_owner(role: &[u8]) -> bool
     ensures { λ r. ⌜ r ≡ ownerOf (now (role .entry)) ⌝ }
 {
     if role.len() == 0 {
@@ -88,7 +88,7 @@ fn is_owner(role: &[u8]) -> bool
 }
 
 // The address of a writer who is an attendee.
-fn writer(role: &[u8]) -> &[u8]
+pub fn writer(role: &[u8]) -> &[u8]
     ensures { λ r. ⌜ now r ≡ writerOf (now (role .entry)) ⌝ }
 {
     frame::short_text_at(role, 1)

@@ -48,6 +48,10 @@ skipUnit (suc (suc (suc (suc (suc (suc (suc (suc zero)))))))) s c = skips transp
 skipUnit (suc (suc (suc (suc (suc (suc (suc (suc (suc zero))))))))) s c = skips visibilityF s c
 skipUnit (suc (suc (suc (suc (suc (suc (suc (suc (suc (suc k)))))))))) s c = skips tag s c
 
+-- the attendees' place among the units
+abbrev pub attendees-unit : ℕ
+attendees-unit = 4
+
 -- the place of the k-th unit
 unfoldable pub unitAt : List ℕ → ℕ → Cursor
 unitAt s zero = start

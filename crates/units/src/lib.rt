@@ -13,6 +13,7 @@ use pens::Pen;
 use pens::Sheet;
 
 // The units of an event's fields, by their place: the attendees are the fifth.
+pub const ATTENDEES: u8 = 4;
 
 fn skip_unit(c: Cursor, s: &[u8], k: u8) -> Cursor
     ensures { λ r. ⌜ r ≡ skipUnit k (now (s .entry)) c ⌝ }
