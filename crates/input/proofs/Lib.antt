@@ -3,3 +3,5 @@ pub mod Laws
 pub mod Theorems
 -- What a program holds, line after line.
 pub mod Serving
+-- An input's one line.
+pub mod OnlyLaws

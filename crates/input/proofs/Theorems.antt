@@ -1,5 +1,5 @@
 -- Of every input, however it is cut into chunks, the splitter hands out the lines, call by call; and what it cuts off a line changes no frame. Assumes nothing.
-use Prim.Native.Nat.{ℕ, zero, suc, _+_, _-_, _≤_, _<_}
+use Prim.Native.Nat.{ℕ, zero, suc, _+_, _≤_, _<_}
 use native.Mathlib.Omega.{arith}
 use mathlib.Core.Path.{_≡_, refl, sym, ap, ap₂, _∙_}
 use mathlib.Core.Bool.{Bool, true, false, cond, not}
@@ -46,13 +46,13 @@ ends-later (b ∷ c) t h = go (λ k. ends-later c t k) (eqb b 10) h
 
 -- ---- the first line
 
-abbrev first-line : List ℕ → List ℕ
+abbrev pub first-line : List ℕ → List ℕ
 first-line s = take (line-length s) s
 
-abbrev after-line : List ℕ → List ℕ
+abbrev pub after-line : List ℕ → List ℕ
 after-line s = drop (suc (line-length s)) s
 
-first-then : (b : ℕ) (s : List ℕ) → lines-of (b ∷ s) ≡ first-line (b ∷ s) ∷ lines-of (after-line (b ∷ s))
+pub first-then : (b : ℕ) (s : List ℕ) → lines-of (b ∷ s) ≡ first-line (b ∷ s) ∷ lines-of (after-line (b ∷ s))
 unfolding lines-of line-length
 first-then b [] = go (eqb b 10)
   where
@@ -84,10 +84,10 @@ not-empty-behind [] (b ∷ c) t h = refl
 not-empty-behind (a ∷ x) c t h = refl
 
 -- what a call hands out where the bytes `before` of the line were taken already
-record Hands (limit : ℕ) (before s : List ℕ) (r : Handed) : Type 0 where
-  line : r .line ≡ take limit (before ++ first-line s)
-  whole : r .whole ≡ not (is-empty (before ++ s))
-  rest : flatten (r .rest) ≡ after-line s
+pub record Hands (limit : ℕ) (before s : List ℕ) (r : Handed) : Type 0 where
+  pub line : r .line ≡ take limit (before ++ first-line s)
+  pub whole : r .whole ≡ not (is-empty (before ++ s))
+  pub rest : flatten (r .rest) ≡ after-line s
 
 module _ (limit : ℕ) (some : 0 < limit) where
   ends-in : (before c : List ℕ) (cs : List (List ℕ)) → line-length c < length c → Hands limit before (c ++ flatten cs) (next-line limit (take limit before) (c ∷ cs))
@@ -104,7 +104,7 @@ module _ (limit : ℕ) (some : 0 < limit) where
         rest = ap (λ (r : Handed). flatten (r .rest)) p ∙ sym (drop-append-le (suc n) c t (omega arith)) ∙ ap (λ (k : ℕ). drop (suc k) (c ++ t)) (sym e);
       }
 
-  call : (before : List ℕ) (chunks : List (List ℕ)) → Hands limit before (flatten chunks) (next-line limit (take limit before) chunks)
+  pub call : (before : List ℕ) (chunks : List (List ℕ)) → Hands limit before (flatten chunks) (next-line limit (take limit before) chunks)
   unfolding next-line taken flatten line-length
   call before [] = record {
     line = ap (take limit) (sym (append-nil before));

@@ -4,3 +4,5 @@ pub mod Input
 pub mod Ready
 -- What a program holds after some lines of some input.
 pub mod Served
+-- The one line of an input.
+pub mod Only

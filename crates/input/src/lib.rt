@@ -4,6 +4,7 @@ ghost use mathlib.Core.List.{[]};
 ghost use Prim.Native.Nat.{_≤_};
 ghost use lib.ListN.{length, take};
 ghost use Rattle.input.specs.Ready.{Ready, Takes, Reads, between};
+ghost use Rattle.input.specs.Only.{OnlyRead};
 
 // What is left of the chunk lies from `at` to `end`; `have` bytes of the line are kept.
 pub struct Input {
@@ -90,4 +91,40 @@ pub fn read_line(chunk: &mut [u8], line: &mut [u8], at: usize, end: usize) -> In
         turns -= 1;
     }
     p
+}
+
+// The one line of an input: whether there is just one, and how many bytes of it are kept.
+pub struct Only {
+    pub one: bool,
+    pub have: usize,
+}
+
+// Reads the one line of standard input. Of a second line no more is kept than tells that there is one.
+pub fn only_line(chunk: &mut [u8], line: &mut [u8]) -> Only
+    requires { ⌜ 1 ≤ length (now line) ⌝ }
+    ensures { λ r. ⌜ OnlyRead (now (line .exit)) r ⌝ }
+{
+    let first = read_line(chunk, line, 0, 0);
+    let have = first.have;
+    if !first.whole {
+        return Only {
+            one: false,
+            have: 0,
+        };
+    }
+    if first.ended {
+        return Only { one: true, have };
+    }
+    let mut more = [0u8; 1];
+    let second = read_line(chunk, &mut more, first.at, first.end);
+    if second.whole {
+        return Only {
+            one: false,
+            have: 0,
+        };
+    }
+    Only {
+        one: second.ended,
+        have,
+    }
 }
