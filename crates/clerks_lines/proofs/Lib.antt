@@ -1,0 +1,2 @@
+-- Laws of the answer's text.
+pub mod Laws

@@ -1,0 +1,2 @@
+-- The answer to a frame as text.
+pub mod Text
