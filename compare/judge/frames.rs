@@ -1,5 +1,6 @@
 //! Random frames that mean something: the generator keeps the engine's state and answers what is in flight. The same seed,
 //! steps and profile give the same lines.
+mod clerks;
 mod damage;
 mod fills;
 mod merges;
@@ -14,6 +15,7 @@ use crate::cover::Cover;
 use crate::engine::{self, Engine};
 use crate::limited::{Input, Outcome, RequestId, ResourceId, codec};
 use crate::view::{Purpose, View, hex};
+pub use clerks::clerks_input;
 pub use damage::ODD_TEXTS;
 pub use merges::{AttendeeMerge, attendee_merges};
 pub use rng::Rng;

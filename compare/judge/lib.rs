@@ -5,6 +5,7 @@ pub use calendar_sync_model as model;
 
 pub mod attendee;
 pub mod checks;
+pub mod clerks;
 pub mod cover;
 pub mod engine;
 pub mod frames;

@@ -2,7 +2,7 @@
 use judge::cover::{self, Cover};
 use judge::engine::{self, Answer, Engine};
 use judge::view::hex;
-use judge::{attendee, checks, frames, limited, sender};
+use judge::{attendee, checks, clerks, frames, limited, sender};
 use std::io::{self, BufRead, Write};
 use std::process::ExitCode;
 
@@ -23,7 +23,9 @@ const USAGE: &str = "usage:
   judge attendee [--seed S] [--merges N]       whether an attendee's merge changes only the writer's own answer: every
               merge of lists of at most two, and N random ones (500000)
   judge sender                                 uses of a sender on standard input, answers on standard output
-  judge sender-gen --seed S --steps N          random uses for it, some lines damaged";
+  judge sender-gen --seed S --steps N          random uses for it, some lines damaged
+  judge clerks                                 two clerks' frame as the one line of standard input, who can force what
+  judge clerks-gen --seed S                    a random input for it, some damaged";
 
 struct Args(Vec<String>);
 
@@ -70,6 +72,8 @@ fn main() -> ExitCode {
         "attendee" => attendee::run(&mut out, args.number("--seed", 1), args.number("--merges", 500_000) as usize),
         "sender" => sender::run(&mut out),
         "sender-gen" => sender::generate(&mut out, args.number("--seed", 1), args.steps()),
+        "clerks" => clerks::run(&mut out),
+        "clerks-gen" => out.write_all(&frames::clerks_input(args.number("--seed", 1))).map(|()| true),
         _ => die(USAGE),
     };
     // Only a reader that has gone away makes writing fail.
