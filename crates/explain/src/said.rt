@@ -29,22 +29,11 @@ fn head(text: &mut [u8], number: u64, what: &[u8]) -> Pen
     counted.part(text, b", ").part(text, what).part(text, b": ")
 }
 
-fn print(text: &mut [u8], pen: Pen)
-    requires { ⌜ Ready (now text) pen ⌝ }
-{
-    let end = pen.byte(text, b'\n');
-    if !end.ok {
-        phrases::print(b"(a line that is too long to print)\n");
-        return;
-    }
-    phrases::print(part(text, 0, end.at));
-}
-
 fn no_digits(number: u64, line: &[u8]) {
     let mut text = [0u8; 65536];
     let start = head(&mut text, number, b"no frame");
     let end = faults::fault(start, &mut text, line);
-    print(&mut text, end);
+    phrases::print_line(&mut text, end);
 }
 
 // Whether the bytes are a frame is said by `parse`; the words follow them as far as they can be read.
@@ -52,7 +41,7 @@ fn input(number: u64, frame: &[u8]) {
     let mut text = [0u8; 65536];
     let start = verdict(&mut text, number, frame);
     let end = words::input(start, &mut text, frame);
-    print(&mut text, end);
+    phrases::print_line(&mut text, end);
 }
 
 fn verdict(text: &mut [u8], number: u64, frame: &[u8]) -> Pen
@@ -77,7 +66,7 @@ fn code(number: u64, code: u8) {
     let mut text = [0u8; 4096];
     let start = head(&mut text, number, b"answer");
     let end = words::answer(start, &mut text, code);
-    print(&mut text, end);
+    phrases::print_line(&mut text, end);
 }
 
 fn say_effects(number: u64, out: &[u8], length: usize) {
@@ -96,5 +85,5 @@ fn effect(number: u64, bytes: &[u8]) {
     let mut text = [0u8; 65536];
     let start = head(&mut text, number, b"effect");
     let end = words::effect(start, &mut text, bytes);
-    print(&mut text, end);
+    phrases::print_line(&mut text, end);
 }

@@ -15,5 +15,6 @@ pub use rules::step;
 pub use saying::say;
 pub use writing::decimal;
 pub use writing::print;
+pub use writing::print_line;
 pub use writing::quoted;
 pub use writing::shown;

@@ -1,17 +1,30 @@
 // Numbers in decimal, and texts as they may be printed.
 use crate::visible::byte_at;
 use crate::visible::front;
+use comparison::part;
 use libc::STDOUT_FILENO;
 use pens::Pen;
 ghost use mathlib.Core.Path.{_≡_};
 ghost use Prim.Native.Nat.{_≤_, _<_};
-ghost use Rattle.phrases.specs.Shown.{frontOf, Shown, Shows, Decimal};
+ghost use Rattle.phrases.specs.Shown.{frontOf, Shown, Ready, Shows, Decimal};
 
 // Writes to standard output, where nothing goes that could do harm to a terminal.
 pub fn print(bytes: &[u8])
     requires { ⌜ Shown (now bytes) ⌝ }
 {
     io::write_all(STDOUT_FILENO, bytes);
+}
+
+// Ends a line, and writes it to standard output.
+pub fn print_line(text: &mut [u8], pen: Pen)
+    requires { ⌜ Ready (now text) pen ⌝ }
+{
+    let end = pen.byte(text, b'\n');
+    if !end.ok {
+        print(b"(a line that is too long to print)\n");
+        return;
+    }
+    print(part(text, 0, end.at));
 }
 
 pub fn decimal(pen: Pen, out: &mut [u8], n: u64) -> Pen

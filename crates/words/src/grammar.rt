@@ -65,6 +65,8 @@ description|? description/. no description/8 description
 status|= status/. status Confirmed/. status Tentative/. status Cancelled
 transparency|= transparency/. transparency Opaque/. transparency Transparent
 visibility|= visibility/. visibility Default/. visibility Public/. visibility Private/. visibility Confidential
+clerks|> booking |& event|> party 1 |& party|> party 2 |& party|!
+party|& role|> wants [|& fields|< ]
 frame|& input|!
 input|= input/. sync/& edit/8 request|+  answered: |& outcome/@ tick, now/. resume
 edit|s edit|i resource|+ : |& operation|& role|& expiry

@@ -17,11 +17,11 @@ slice-aggregate-answer c = search needs
 answer-requires : tie.Need-answer-requires
 answer-requires c κs = search needs
 
-slice-aggregate-print : tie.Need-slice-aggregate-print
-slice-aggregate-print c = search needs
+slice-aggregate-print-line : tie.Need-slice-aggregate-print-line
+slice-aggregate-print-line c = search needs
 
-print-requires : tie.Need-print-requires
-print-requires c κs = c .before .before .answer .ensures .shows (c .before .before .before .before .before .head .ensures)
+print-line-requires : tie.Need-print-line-requires
+print-line-requires c κs = c .before .before .answer .ensures .shows (c .before .before .before .before .before .head .ensures)
 
 returns : tie.Need-returns
 returns c = search needs
@@ -35,6 +35,6 @@ code-spec =
     head-requires
     slice-aggregate-answer
     answer-requires
-    slice-aggregate-print
-    print-requires
+    slice-aggregate-print-line
+    print-line-requires
     returns)

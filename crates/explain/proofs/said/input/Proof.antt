@@ -14,11 +14,11 @@ slice-aggregate-input c = search needs
 input-requires : tie.Need-input-requires
 input-requires c κs = search needs
 
-slice-aggregate-print : tie.Need-slice-aggregate-print
-slice-aggregate-print c = search needs
+slice-aggregate-print-line : tie.Need-slice-aggregate-print-line
+slice-aggregate-print-line c = search needs
 
-print-requires : tie.Need-print-requires
-print-requires c κs = c .before .before .input .ensures .shows (c .before .before .before .before .before .verdict .ensures)
+print-line-requires : tie.Need-print-line-requires
+print-line-requires c κs = c .before .before .input .ensures .shows (c .before .before .before .before .before .verdict .ensures)
 
 returns : tie.Need-returns
 returns c = search needs
@@ -31,6 +31,6 @@ input-spec =
     verdict-requires
     slice-aggregate-input
     input-requires
-    slice-aggregate-print
-    print-requires
+    slice-aggregate-print-line
+    print-line-requires
     returns)

@@ -17,11 +17,11 @@ slice-aggregate-fault c = search needs
 fault-requires : tie.Need-fault-requires
 fault-requires c κs = search needs
 
-slice-aggregate-print : tie.Need-slice-aggregate-print
-slice-aggregate-print c = search needs
+slice-aggregate-print-line : tie.Need-slice-aggregate-print-line
+slice-aggregate-print-line c = search needs
 
-print-requires : tie.Need-print-requires
-print-requires c κs = c .before .before .fault .ensures .shows (c .before .before .before .before .before .head .ensures)
+print-line-requires : tie.Need-print-line-requires
+print-line-requires c κs = c .before .before .fault .ensures .shows (c .before .before .before .before .before .head .ensures)
 
 returns : tie.Need-returns
 returns c = search needs
@@ -35,6 +35,6 @@ no-digits-spec =
     head-requires
     slice-aggregate-fault
     fault-requires
-    slice-aggregate-print
-    print-requires
+    slice-aggregate-print-line
+    print-line-requires
     returns)

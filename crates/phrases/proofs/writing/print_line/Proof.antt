@@ -1,8 +1,8 @@
 use borrow.Author.Tests.{not-false}
 use Rattle.phrases.proofs.Printed.{plain-shown, shows-wrote, ready-part}
 use borrow.Author.Needs.{needs}
-use Rattle.explain.proofs.said.print.Statement.{statement}
-use Rattle.explain.proofs.said.print.Tie as tie
+use Rattle.phrases.proofs.writing.print_line.Statement.{statement}
+use Rattle.phrases.proofs.writing.print_line.Tie as tie
 
 byte-requires : tie.Need-byte-requires
 byte-requires c κs = search needs
@@ -31,8 +31,8 @@ same-length-2 c = search needs
 returns-2 : tie.Need-returns-2
 returns-2 c = search needs
 
-pub print-spec : {M : Type 1} → statement M
-print-spec =
+pub print-line-spec : {M : Type 1} → statement M
+print-line-spec =
     tie.close
     (tie.spec
     byte-requires
