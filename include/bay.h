@@ -30,29 +30,37 @@
 extern "C" {
 #endif
 
-/* The length of a state's buffer and of a work buffer, the least length of an output buffer, and the length of a sender's buffer. */
+/*
+ * The length of a state's buffer and of a step's work buffer, the least length of an output buffer, the length of a sender's buffer,
+ * and for the two clerks the length of each line's buffer and of their work buffer.
+ */
 #define BAY_STATE_LENGTH 58543
 #define BAY_OUTPUT_LENGTH 32768
 #define BAY_SENDER_LENGTH 1582
+#define BAY_CLERKS_LINE_LENGTH 940
+#define BAY_CLERKS_WORK_LENGTH 882
 
 /* The same numbers from the archive, for a program that checks at its start that header and archive belong together. */
 size_t bay_state_length(void);
 size_t bay_output_length(void);
 size_t bay_sender_length(void);
+size_t bay_clerks_line_length(void);
+size_t bay_clerks_work_length(void);
 
 /*
- * What every other function returns: 0, or the refusal. Checks run 1, 2, 3; the others are met as the step goes.
+ * What every other function returns: 0, or the refusal. A step checks 1, 2, 3; the others are met as it goes.
  * After a refusal the bytes of the state, or of the sender, are as they were.
  */
 enum {
     BAY_ACCEPTED = 0,
     BAY_LENGTH = 1,          /* a lent buffer's length is wrong */
     BAY_STATE = 2,           /* the bytes are not those of a well-formed state, or not those of a sender */
-    BAY_FRAME = 3,           /* the bytes are not exactly one input frame */
+    BAY_FRAME = 3,           /* the bytes are not exactly one input frame, or not exactly one frame of two clerks */
     BAY_REQUEST_NUMBERS = 4, /* no request number is left */
     BAY_TABLE = 5,           /* a table would need one entry more than its limit */
     BAY_ATTENDEES = 6,       /* an owner's update, merged, would have over 8 attendees; an attendee's never has */
     BAY_EFFECTS = 7,         /* the effects would pass 32,768 bytes */
+    BAY_ADDRESS_TWICE = 10,  /* an attendee list has the same address twice, capitals or not */
     BAY_MILL = 11,           /* a sender has no such mill */
     BAY_LANE = 12            /* the mill's lane at the sender holds 24 requests */
 };
@@ -136,6 +144,33 @@ uint8_t bay_sender_reply(uint8_t *sender, size_t sender_length, uint8_t mill, ui
  * hold their share until their reply comes, so nothing is granted.
  */
 uint8_t bay_sender_resume(uint8_t *sender, size_t sender_length, uint8_t mill);
+
+/*
+ * Two clerks, one booking: two parties start from one event of the provider's, and each writes one update. For each order of the writes
+ * this gives the final event, and for each unit of it who can force it. A party can force a unit if for every value unlike the event's
+ * it has an update that leaves that value in the end, whichever update the other chooses that gets neither merge refused. A reply has a
+ * value only while its entry stands.
+ *
+ * The frame is the event, a ProviderEvent, and then for each party its role and the event that it wants, a NormalizedEvent.
+ *
+ * `one` takes the line of the order in which the frame's first party writes first, `two` the line of the other order. A line is the
+ * final event, in the frame's form, and then a byte for each unit: 0 for nobody, or 1 or 2 for the party that can force it, its place in
+ * the frame; if both can, the first to write. The units are title, times, recurrence, organizer; for each attendee entry the entry but
+ * for its reply, and then the reply; location, description, status, transparency, visibility, reminders. The entries are the event's,
+ * then those that the first party wants and the event has not, then those that the second wants and neither has. An entry goes by its
+ * address, capitals or not. *one_line_length and *two_line_length are how many bytes the lines take.
+ *
+ * one_length and two_length must be BAY_CLERKS_LINE_LENGTH and work_length BAY_CLERKS_WORK_LENGTH, else BAY_LENGTH is returned and no
+ * buffer is touched. What the three hold before the call does not matter. The other refusals come in this order: BAY_FRAME,
+ * BAY_ADDRESS_TWICE for any of the three attendee lists, and BAY_ATTENDEES for a merge of either order. After every call with right
+ * lengths the work buffer is zero, and `one` and `two` are zero past their lines. After a refusal there are no lines: both line lengths
+ * are 0.
+ */
+uint8_t bay_two_clerks(const uint8_t *frame, size_t frame_length,
+                       uint8_t *one, size_t one_length,
+                       uint8_t *two, size_t two_length,
+                       uint8_t *work, size_t work_length,
+                       size_t *one_line_length, size_t *two_line_length);
 
 #ifdef __cplusplus
 }

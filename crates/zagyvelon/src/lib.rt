@@ -1,5 +1,5 @@
-// The engine and the sender for programs in other languages, as include/bay.h declares it. Each function has the contract of the one that it
-// calls, and asks nothing of what it is lent. A second answer is written through a reference.
+// The engine, the sender and the two clerks for programs in other languages, as include/bay.h declares them. Each function has the contract of the one
+// that it calls, and asks nothing of what it is lent. A second answer is written through a reference.
 ghost use mathlib.Core.Path.{_≡_};
 ghost use mathlib.Core.Bool.{false};
 ghost use mathlib.Core.Option.{none};
@@ -18,6 +18,8 @@ ghost use Rattle.sender_turns.specs.Sender.{Use};
 ghost use Rattle.sender_turns.specs.Laid.{no-call};
 ghost use Rattle.sender_bytes.specs.Bytes.{sender-length, freshened};
 ghost use Rattle.sender_bytes.specs.Read.{Uses};
+ghost use Rattle.clerks_bytes.specs.Writes.{line-bytes, work-bytes};
+ghost use Rattle.clerks_bytes.specs.Returned.{asked};
 
 // The length of a state's buffer and of the work buffer.
 #[no_mangle]
@@ -179,5 +181,41 @@ pub extern "C" fn bay_sender_resume(sender: &mut [u8], mill: u8) -> u8
     ensures { λ r. ⌜ Uses (Use.Resume mill) (now (sender .entry)) (now (sender .exit)) (record { code = r; granted = false; call = no-call }) ⌝ }
 {
     let a = sender_bytes::resume(sender, mill);
+    a.code
+}
+
+// ---- two clerks
+
+// The length of each line's buffer.
+#[no_mangle]
+pub extern "C" fn bay_clerks_line_length() -> usize
+    ensures { λ r. ⌜ r ≡ line-bytes ⌝ }
+{
+    clerks_bytes::LINE
+}
+
+// The length of the work buffer.
+#[no_mangle]
+pub extern "C" fn bay_clerks_work_length() -> usize
+    ensures { λ r. ⌜ r ≡ work-bytes ⌝ }
+{
+    clerks_bytes::WORK
+}
+
+// The lines are the first `size` bytes of `one` and the first `extent` bytes of `two`.
+#[no_mangle]
+pub extern "C" fn bay_two_clerks(
+    frame: &[u8],
+    one: &mut [u8],
+    two: &mut [u8],
+    work: &mut [u8],
+    size: &mut usize,
+    extent: &mut usize,
+) -> u8
+    ensures { λ r. ⌜ record { code = r; one-length = now (size .exit); two-length = now (extent .exit); one = now (one .exit); two = now (two .exit); work = now (work .exit) } ≡ asked (now (frame .entry)) (now (one .entry)) (now (two .entry)) (now (work .entry)) ⌝ }
+{
+    let a = clerks_bytes::two_clerks(frame, one, two, work);
+    *size = a.one;
+    *extent = a.two;
     a.code
 }

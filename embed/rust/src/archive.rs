@@ -72,6 +72,20 @@ unsafe extern "C" {
         granted_number: *mut u64,
     ) -> u8;
     fn bay_sender_resume(sender: *mut u8, sender_length: usize, mill: u8) -> u8;
+    safe fn bay_clerks_line_length() -> usize;
+    safe fn bay_clerks_work_length() -> usize;
+    fn bay_two_clerks(
+        frame: *const u8,
+        frame_length: usize,
+        one: *mut u8,
+        one_length: usize,
+        two: *mut u8,
+        two_length: usize,
+        work: *mut u8,
+        work_length: usize,
+        one_line_length: *mut usize,
+        two_line_length: *mut usize,
+    ) -> u8;
 }
 
 /// A part of the state's bytes.
@@ -242,4 +256,39 @@ pub fn sender_reply(sender: &mut [u8], mill: u8, number: u64) -> (u8, Option<(u8
 pub fn sender_resume(sender: &mut [u8], mill: u8) -> u8 {
     // SAFETY: pointer and length are those of one slice, which nobody else uses during the call.
     unsafe { bay_sender_resume(sender.as_mut_ptr(), sender.len(), mill) }
+}
+
+pub fn clerks_line_length() -> usize {
+    bay_clerks_line_length()
+}
+
+pub fn clerks_work_length() -> usize {
+    bay_clerks_work_length()
+}
+
+/// The lengths of the two lines.
+pub fn two_clerks(
+    frame: &[u8],
+    one: &mut [u8],
+    two: &mut [u8],
+    work: &mut [u8],
+) -> (u8, [usize; 2]) {
+    let [mut one_line, mut two_line] = [0; 2];
+    // SAFETY: each pointer and length are those of one slice; the slices that are written, and the two lengths, overlap nothing and
+    // nobody else uses them during the call.
+    let code = unsafe {
+        bay_two_clerks(
+            frame.as_ptr(),
+            frame.len(),
+            one.as_mut_ptr(),
+            one.len(),
+            two.as_mut_ptr(),
+            two.len(),
+            work.as_mut_ptr(),
+            work.len(),
+            &raw mut one_line,
+            &raw mut two_line,
+        )
+    };
+    (code, [one_line, two_line])
 }

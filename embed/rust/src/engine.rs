@@ -29,7 +29,7 @@ pub enum Refusal {
     State,
     /// 3: the bytes are not exactly one input frame.
     Frame,
-    /// 3 too: the input has no frame, and no call was made.
+    /// 3 too: the input, or what two clerks are given, has no frame, and no call was made.
     Input(EncodeError),
     /// 4: no request number is left.
     RequestNumbers,
@@ -39,6 +39,8 @@ pub enum Refusal {
     Attendees,
     /// 7: the effects would pass the output.
     Effects,
+    /// 10: an attendee list has the same address twice, capitals or not.
+    AddressTwice,
     /// 11: a sender has no such mill.
     Mill,
     /// 12: the mill's lane at the sender holds as many requests as it can.
@@ -57,6 +59,7 @@ impl Refusal {
             Self::Table => 5,
             Self::Attendees => 6,
             Self::Effects => 7,
+            Self::AddressTwice => 10,
             Self::Mill => 11,
             Self::Lane => 12,
         }
@@ -71,9 +74,10 @@ impl Refusal {
             5 => Self::Table,
             6 => Self::Attendees,
             7 => Self::Effects,
+            10 => Self::AddressTwice,
             11 => Self::Mill,
             12 => Self::Lane,
-            _ => unreachable!("the archive answers 0 to 7, 11 and 12"),
+            _ => unreachable!("the archive answers 0 to 7 and 10 to 12"),
         }
     }
 }
@@ -89,6 +93,7 @@ impl fmt::Display for Refusal {
             Self::Table => "a table is full",
             Self::Attendees => "the merged event has too many attendees",
             Self::Effects => "the effects are too long",
+            Self::AddressTwice => "an attendee list has the same address twice",
             Self::Mill => "a sender has no such mill",
             Self::Lane => "the mill's lane is full",
         })
@@ -123,8 +128,8 @@ pub(crate) fn accepted<T>(answered: (u8, T)) -> T {
     answer(answered).expect("the state and the buffers are right")
 }
 
-/// What the archive wrote into an engine's state or output.
-fn written<T, E: fmt::Debug>(decoded: Result<T, E>) -> T {
+/// What the archive wrote into an engine's state or output, or into a line.
+pub(crate) fn written<T, E: fmt::Debug>(decoded: Result<T, E>) -> T {
     decoded.expect("what the archive writes can be read")
 }
 

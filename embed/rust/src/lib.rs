@@ -20,8 +20,11 @@
 //! ```
 //!
 //! Where several mills share one account, their requests go through a [`Sender`], which grants them the provider's calls in turn.
+//!
+//! Where two parties write to one event, [`two_clerks`] says what either order of their writes leads to, and which of them can force what.
 
 mod archive;
+mod clerks;
 mod engine;
 mod event;
 mod forms;
@@ -32,6 +35,7 @@ mod seam;
 mod sender;
 mod sync;
 
+pub use clerks::{Named, Party, Unit, Written, two_clerks};
 pub use engine::{Engine, Refusal};
 pub use event::{
     Attendee, AttendeeRole, Description, EventStatus, EventTimes, NormalizedEvent, Organizer,

@@ -95,7 +95,7 @@ impl Random {
         }
     }
 
-    fn attendee(&mut self) -> Attendee {
+    pub fn attendee(&mut self) -> Attendee {
         use AttendeeRole::{Chair, NonParticipant, Optional, Required};
         use ParticipantKind::{Group, Individual, Resource, Room, Unknown};
         Attendee {
@@ -126,7 +126,7 @@ impl Random {
         self.one(&[Default, Public, Private, Confidential])
     }
 
-    fn fields(&mut self) -> NormalizedEvent {
+    pub fn fields(&mut self) -> NormalizedEvent {
         NormalizedEvent {
             title: self.maybe(|r| r.text(MAX_TEXT)),
             times: EventTimes::new(self.tag()),
