@@ -2,7 +2,7 @@
 use Prim.Native.Nat.{ℕ, suc, _<_}
 use mathlib.Core.Path.{_≡_, refl, sym, ap, _∙_}
 use mathlib.Core.Bool.{true, false}
-use mathlib.Core.List.{List, [], _∷_, map}
+use mathlib.Core.List.{List, [], _∷_, _++_, map}
 use mathlib.Core.Option.{Option, none, some}
 use lib.ListN.{length, take}
 use lib.Seq.{take-take}
@@ -29,15 +29,15 @@ printed-cut n [] h = refl
 printed-cut n (s ∷ []) h = ap (λ (f : List ℕ). text-of (two-clerks f)) (frame-cut n s h)
 printed-cut n (s ∷ t ∷ lines) h = refl
 
-module _ {kept text : List ℕ} {r : ℕ} (o : Only) (O : OnlyRead kept o) (long : max-digits < length kept) where
-  prints : Starts (answer-to (held (o .one) (take (o .have) kept))) text r → Prints text r
+module _ {left kept text : List ℕ} {r : ℕ} (o : Only) (O : OnlyRead left kept o) (long : max-digits < length kept) where
+  prints : Starts (answer-to (held (o .one) (take (o .have) kept))) text r → Prints left text r
   unfolding printed answer-to
-  prints S = record { input = O .input; is = rw (O .is, printed-cut (length kept) (lines-of (O .input)) long) at S }
+  prints S = record { more = O .more; is = rw (O .is, printed-cut (length kept) (lines-of (left ++ O .more)) long) at S }
 
-  pub prints-line : o .one ≡ true → Starts (text-of (two-clerks (frame-of (take (o .have) kept)))) text r → Prints text r
+  pub prints-line : o .one ≡ true → Starts (text-of (two-clerks (frame-of (take (o .have) kept)))) text r → Prints left text r
   unfolding answer-to match_none:_some:_
   prints-line e S = prints (rw e S)
 
-  pub prints-none : o .one ≡ false → Starts (line (decimal no-frame)) text r → Prints text r
+  pub prints-none : o .one ≡ false → Starts (line (decimal no-frame)) text r → Prints left text r
   unfolding answer-to match_none:_some:_ text-of
   prints-none e S = prints (rw e S)

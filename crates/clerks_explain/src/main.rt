@@ -8,7 +8,7 @@ use comparison::part;
 fn main() {
     let mut chunk = io::large_buffer();
     let mut line = [0u8; lines::LINE];
-    let only = input::only_line(&mut chunk, &mut line);
+    let only = input::only_line(&mut chunk, &mut line, 0, 0);
     let have = only.have;
     if only.one {
         said::explain(part(&line, 0, have));

@@ -2,7 +2,7 @@
 use Prim.Native.Nat.{ℕ, _≤_}
 use mathlib.Core.Path.{_≡_}
 use mathlib.Core.Bool.{Bool, true, false}
-use mathlib.Core.List.{List, [], _∷_, map}
+use mathlib.Core.List.{List, [], _∷_, _++_, map}
 use mathlib.Core.Option.{Option, none, some}
 use lib.ListN.{length, take}
 use Rattle.input.specs.Input.{lines-of}
@@ -18,8 +18,8 @@ abbrev pub kept : Bool → List ℕ → Option (List ℕ)
 kept true line = some line
 kept false line = none
 
--- it is the one line of some input, cut where the buffer ends
-pub record OnlyRead (line′ : List ℕ) (r : Only) : Type 0 where
+-- it is the one line of what was left and of what came then, cut where the buffer ends
+pub record OnlyRead (left line′ : List ℕ) (r : Only) : Type 0 where
   pub fits : r .have ≤ length line′
-  pub input : List ℕ
-  pub is : kept (r .one) (take (r .have) line′) ≡ only (map (take (length line′)) (lines-of input))
+  pub more : List ℕ
+  pub is : kept (r .one) (take (r .have) line′) ≡ only (map (take (length line′)) (lines-of (left ++ more)))

@@ -99,12 +99,12 @@ pub struct Only {
     pub have: usize,
 }
 
-// Reads the one line of standard input. Of a second line no more is kept than tells that there is one.
-pub fn only_line(chunk: &mut [u8], line: &mut [u8]) -> Only
-    requires { ⌜ 1 ≤ length (now line) ⌝ }
-    ensures { λ r. ⌜ OnlyRead (now (line .exit)) r ⌝ }
+// Reads the one line of what is left of the chunk and of standard input. Of a second line no more is kept than tells that there is one.
+pub fn only_line(chunk: &mut [u8], line: &mut [u8], at: usize, end: usize) -> Only
+    requires { ⌜ (at ≤ end) × (end ≤ length (now chunk)) × (1 ≤ length (now line)) ⌝ }
+    ensures { λ r. ⌜ OnlyRead (between at end (now (chunk .entry))) (now (line .exit)) r ⌝ }
 {
-    let first = read_line(chunk, line, 0, 0);
+    let first = read_line(chunk, line, at, end);
     let have = first.have;
     if !first.whole {
         return Only {

@@ -1,4 +1,5 @@
 use Rattle.input.proofs.OnlyLaws.{read-none, read-last, read-then}
+use native.Mathlib.Omega.{arith}
 use borrow.Author.Needs.{needs}
 use borrow.Author.Tests.{not-false}
 use Rattle.input.proofs.only_line.Statement.{statement}
@@ -14,7 +15,7 @@ same-length-2 : tie.Need-same-length-2
 same-length-2 c = search needs
 
 returns : tie.Need-returns
-returns c = read-none _
+returns c = read-none _ _ 0 (omega arith)
 
 same-length-3 : tie.Need-same-length-3
 same-length-3 c = search needs
@@ -38,7 +39,7 @@ same-length-6 : tie.Need-same-length-6
 same-length-6 c = search needs
 
 returns-3 : tie.Need-returns-3
-returns-3 c = read-none _
+returns-3 c = read-none _ _ 0 (omega arith)
 
 same-length-7 : tie.Need-same-length-7
 same-length-7 c = search needs
