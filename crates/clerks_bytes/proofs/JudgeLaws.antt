@@ -3,7 +3,7 @@ use Prim.Native.Nat.{ℕ}
 use mathlib.Core.Path.{_≡_, refl, sym, ap, _∙_, subst}
 use mathlib.Core.List.{List}
 use mathlib.Core.Option.{Option, none, some}
-use mathlib.Core.Bool.{Bool, true, false, not, _&&_, true≢false}
+use mathlib.Core.Bool.{Bool, true, false, not, true≢false}
 use lib.ListN.{length}
 use lib.Dec.{T}
 use Rattle.format.specs.Format.{wholeOf}
@@ -17,7 +17,7 @@ use Rattle.clerks_bytes.specs.Writes.{line-bytes, work-bytes, AnyExceeds
 use Rattle.clerks_bytes.specs.Returned.{Filled, Fills}
 use Rattle.clerks_bytes.specs.declared.Told.{Told}
 use Rattle.clerks_bytes.proofs.EntryLaws.{so, not-so}
-use Rattle.clerks_bytes.proofs.WriteLaws.{lent-one, lent-two}
+use Rattle.clerks_bytes.proofs.WriteLaws.{both, lent-one, lent-two}
 use Rattle.clerks_bytes.specs.declared.frames.Clerks.{Clerks}
 
 -- ---- the frame
@@ -81,12 +81,9 @@ module _ (frame : List ℕ) (c : Clerks) (R : Reads frame c) (ok : c .ok ≡ tru
     module _ (f : m ≡ false) where
       orders : T (accepted (h .v .event) (h .v .one) (h .v .two)) × T (accepted (h .v .event) (h .v .two) (h .v .one))
       unfolding both-accepted
-      orders = go (accepted (h .v .event) (h .v .one) (h .v .two)) (accepted (h .v .event) (h .v .two) (h .v .one)) (so (both-accepted (h .v)) many f)
-        where
-          go : (x y : Bool) → (x && y) ≡ true → T x × T y
-          go true true e = (tt, tt)
-          go true false e = absurd (true≢false (sym e))
-          go false y e = absurd (true≢false (sym e))
+      orders =
+          let b : both-accepted (h .v) ≡ true = so (both-accepted (h .v)) many f in
+          both (accepted (h .v .event) (h .v .one) (h .v .two)) (accepted (h .v .event) (h .v .two) (h .v .one)) (subst (λ (x : Bool). T x) (sym b) tt)
 
       pub fills-lines : (one two one′ two′ work₁ work₂ : List ℕ) (a b : ℕ) → length one ≡ line-bytes → length two ≡ line-bytes
           → WritesLine frame c (c .one) (c .two) one one′ work′ work₁ a → WritesLine frame c (c .two) (c .one) two two′ work₁ work₂ b

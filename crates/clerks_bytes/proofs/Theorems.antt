@@ -23,6 +23,7 @@ use Rattle.clerks_model.proofs.Theorems.{named-rightly, first-owner-forces, sec
 use Rattle.clerks_model.proofs.Refusals.{Coded, coded}
 use Rattle.clerks_bytes.specs.Returned.{Returned, filled, returned, lengths-right, asked}
 use Rattle.clerks_bytes.specs.Claims.{Called, NamesEach, end, more, LineRight, EveryCallNames}
+use Rattle.clerks_bytes.proofs.WriteLaws.{both}
 
 -- ---- a line of a frame's own parties
 
@@ -96,14 +97,8 @@ held-lines frame a b e = go (wholeOf clerksF frame) refl e
 
 -- ---- both orders
 
-both : (x y : Bool) → (x && y) ≡ true → T x × T y
-both true true e = (tt, tt)
-both true false e = absurd (subst (λ (b : Bool). T b) (sym e) tt)
-both false y e = absurd (subst (λ (b : Bool). T b) (sym e) tt)
-
-is-true : (x : Bool) → T x → x ≡ true
-is-true true t = refl
-is-true false t = absurd t
+so : {x : Bool} → x ≡ true → T x
+so e = subst (λ (b : Bool). T b) (sym e) tt
 
 record Right (c : Clerks) : Type 0 where
   one : LineRight c (party-one c) (party-two c) (line c (party-one c) (party-two c))
@@ -112,9 +107,9 @@ record Right (c : Clerks) : Type 0 where
 right : (c : Clerks) → clerksF .Ok c → all-apart c ≡ true → both-accepted c ≡ true → Right c
 unfolding all-apart both-accepted clerksF partyF via _⊗_
 right c ok a b =
-    let l = both (apart (c .event .fields .attendees) && apart (c .one .wanted .attendees)) (apart (c .two .wanted .attendees)) a in
-    let m = both (apart (c .event .fields .attendees)) (apart (c .one .wanted .attendees)) (is-true _ (l .0)) in
-    let w = both (accepted (c .event) (c .one) (c .two)) (accepted (c .event) (c .two) (c .one)) b in
+    let l = both (apart (c .event .fields .attendees) && apart (c .one .wanted .attendees)) (apart (c .two .wanted .attendees)) (so a) in
+    let m = both (apart (c .event .fields .attendees)) (apart (c .one .wanted .attendees)) (l .0) in
+    let w = both (accepted (c .event) (c .one) (c .two)) (accepted (c .event) (c .two) (c .one)) (so b) in
     let ev : Event (c .event) = record { fits = ok .0; apart-addresses = m .0 } in
     let one : Update (c .one .wanted) = record { fits = ok .1 .0 .1; apart-addresses = m .1 } in
     let two : Update (c .two .wanted) = record { fits = ok .1 .1 .1; apart-addresses = l .1 } in

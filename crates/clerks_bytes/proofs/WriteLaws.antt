@@ -107,7 +107,7 @@ module _ (frame : List ℕ) (p q : Party) {work work′ base ours role : List �
   exceeds-written = record { long = F .long; is = exceeds-is }
 
 -- a frame's parties in either order
-both : (a b : Bool) → T (a && b) → T a × T b
+pub both : (a b : Bool) → T (a && b) → T a × T b
 both true b h = (tt, h)
 both false b h = absurd h
 
