@@ -1,4 +1,6 @@
 // What a state says of itself, for any lent bytes: no function here asks anything of them.
+#![tactic(auto)]
+
 ghost use Rattle.std.specs.Prelude.{◌≡◌, false, ◌+◌, ◌≤◌, ◌<◌, length, take, drop, get_or};
 ghost use Rattle.std.proofs.Math.Option.{none};
 ghost use Rattle.tables.specs.Table.{Holds, slots_of};
@@ -53,7 +55,7 @@ const ENTRIES: usize = 35641;
 
 const ENTRY: usize = 5940;
 
-#[derive(Drop)]
+#[derive(Clone, Copy)]
 pub struct CountAnswer {
     pub code: u8,
     pub count: usize,
@@ -135,7 +137,7 @@ const FIRST_NUMBER: usize = 55645;
 
 const FLIGHT: usize = 43;
 
-#[derive(Drop)]
+#[derive(Clone, Copy)]
 pub struct NumberAnswer {
     pub code: u8,
     pub found: bool,
@@ -196,13 +198,13 @@ const CURSOR_LENGTH: usize = 9152;
 const CURSOR_TEXT: usize = 9153;
 
 // A part of the buffer: it ends within it.
-#[derive(Drop)]
+#[derive(Clone, Copy)]
 pub struct Part {
     pub at: usize,
     pub length: usize,
 }
 
-#[derive(Drop)]
+#[derive(Clone, Copy)]
 pub struct TextAnswer {
     pub code: u8,
     pub found: bool,
@@ -266,7 +268,7 @@ const FIRST_EVENT: usize = 34;
 
 const EVENT: usize = 882;
 
-#[derive(Drop)]
+#[derive(Clone, Copy)]
 pub struct RecordAnswer {
     pub code: u8,
     pub found: bool,
@@ -334,7 +336,7 @@ pub fn record_at(state: &[u8], i: usize) -> RecordAnswer
 
 // ---- the queues
 
-#[derive(Drop)]
+#[derive(Clone, Copy)]
 pub struct QueueAnswer {
     pub code: u8,
     pub found: bool,

@@ -1,4 +1,6 @@
 // sync.rs, the answers to the reads and writes of edits.
+#![tactic(auto)]
+
 ghost use Rattle.std.specs.Prelude.{◌≡◌};
 ghost use Rattle.std.proofs.Math.Option.{none, some};
 ghost use Rattle.model.specs.Event.{ProviderEvent};

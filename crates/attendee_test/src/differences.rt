@@ -27,7 +27,7 @@ pub fn more(n: usize) -> usize {
 }
 
 // What was found in the bytes so far: how many of the writer's own differ, and the first place, if any, where others do.
-#[derive(Drop)]
+#[derive(Clone, Copy)]
 pub struct Found {
     pub own: usize,
     pub other: bool,
@@ -84,7 +84,7 @@ fn with_bytes(
 }
 
 // A walk through theirs: its place, and what was found up to there.
-#[derive(Drop)]
+#[derive(Clone, Copy)]
 struct Walk {
     place: Cursor,
     found: Found,

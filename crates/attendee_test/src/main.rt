@@ -5,6 +5,8 @@
 //   other PLACE    the byte at this place, and perhaps later ones, are not
 //   no event       none is another's, but the bytes are no event
 // and behind it whether the port's merge gives other bytes, or is refused with 6. The last line counts these.
+#![tactic(auto)]
+
 mod differences;
 mod tally;
 
@@ -52,7 +54,7 @@ fn port<'a>(
 }
 
 // How far the list is read.
-#[derive(Drop)]
+#[derive(Clone, Copy)]
 struct Progress {
     place: Cursor,
     totals: Totals,

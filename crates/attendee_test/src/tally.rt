@@ -3,7 +3,7 @@ use crate::differences::more;
 use printing::{end, number, show};
 
 // Whether the bytes that differ are the writer's own.
-#[derive(Drop)]
+#[derive(Clone, Copy)]
 pub enum Claim {
     Own(usize),
     Other(usize),
@@ -11,7 +11,7 @@ pub enum Claim {
 }
 
 // What the port's merge is beside the event.
-#[derive(Drop)]
+#[derive(Clone, Copy)]
 pub enum Beside {
     Same,
     Differs,
@@ -19,7 +19,7 @@ pub enum Beside {
 }
 
 // How many cases there were, and of how many each was said.
-#[derive(Drop)]
+#[derive(Clone, Copy)]
 pub struct Totals {
     pub cases: usize,
     pub own: usize,

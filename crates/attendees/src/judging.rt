@@ -8,7 +8,7 @@ use crate::entry_parts::{reply, same_rest};
 use comparison::Verdict;
 
 // What is judged of an entry: whether the merged one is ours (else theirs), with which reply, and what is reported.
-#[derive(Drop)]
+#[derive(Clone, Copy)]
 pub struct Judged {
     pub ours: bool,
     pub reply: u8,

@@ -1,5 +1,7 @@
 // The attendees of the merge: entries paired by folded address and occurrence, judged, and written. A list is its count and its
 // entries; an entry that is absent is no bytes.
+#![tactic(auto)]
+
 mod entry_parts;
 mod finding;
 mod judging;

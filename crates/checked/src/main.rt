@@ -8,6 +8,8 @@
 //   @DIGITS   prints the name of the record at the place that these two digits give, counted from 0
 //   others    end a line of what is printed
 // Digits that are no frame's are stepped with as a frame of no bytes.
+#![tactic(auto)]
+
 ghost use Rattle.std.specs.Prelude.{◌≤◌, length};
 
 use comparison::{part, same};
@@ -25,7 +27,7 @@ const TOLD: u8 = b'!';
 
 const RECORD: u8 = b'@';
 
-#[derive(Drop)]
+#[derive(Clone, Copy)]
 struct Answer {
     // 0, or the refusal's number
     code: u8,

@@ -1,7 +1,7 @@
 // How many effects are of a kind.
 use comparison::{part, same};
 
-#[derive(Drop)]
+#[derive(Clone, Copy)]
 pub enum Wanted {
     // those with these bytes
     Same,

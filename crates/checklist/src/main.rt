@@ -1,6 +1,8 @@
 // The field engineers' walks, run on the engine. The list on standard input (tools/walk_cases.py writes crates/checklist/stdin; at most 64 KiB)
 // has lines of the kinds that README.md tells under "A walk of your own".
 // A condition that is not met, a refusal that no line expects, and a line that is none of these are printed, and the walk does not hold; nor does one without a check.
+#![tactic(auto)]
+
 mod conditions;
 mod counting;
 mod kinds;

@@ -9,7 +9,7 @@ pub type State = [u8; engine::STATE];
 // The effects since the last mark, back to back.
 pub type Log = [u8; frame::MAX_EFFECTS];
 
-#[derive(Drop)]
+#[derive(Clone, Copy)]
 pub struct Walk {
     // where the effects end in the log
     pub log: Pen,

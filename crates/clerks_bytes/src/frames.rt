@@ -11,7 +11,7 @@ const ONE: u8 = 1;
 
 const TWO: u8 = 2;
 
-#[derive(Drop)]
+#[derive(Clone, Copy)]
 pub struct Party {
     pub number: u8,
     // the places of the role and of the wanted event
@@ -19,7 +19,7 @@ pub struct Party {
     pub wanted: usize,
 }
 
-#[derive(Drop)]
+#[derive(Clone, Copy)]
 pub struct Clerks {
     // the bytes are exactly that frame
     pub ok: bool,
@@ -27,7 +27,7 @@ pub struct Clerks {
     pub two: Party,
 }
 
-#[derive(Drop)]
+#[derive(Clone, Copy)]
 struct PartyRead {
     party: Party,
     next: Cursor,

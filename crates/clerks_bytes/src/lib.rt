@@ -1,4 +1,6 @@
 // Two clerks, one booking, over lent bytes: who can force what of a booking that two parties write to, in either order of their writes.
+#![tactic(auto)]
+
 mod entries;
 mod frames;
 mod names;
@@ -29,7 +31,7 @@ pub const ADDRESS_TWICE: u8 = 10;
 
 pub const TOO_MANY: u8 = 6;
 
-#[derive(Drop)]
+#[derive(Clone, Copy)]
 pub struct Told {
     // 0, or the refusal's number
     pub code: u8,

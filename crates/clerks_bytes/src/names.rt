@@ -18,7 +18,7 @@ const MAX_ENTRIES: usize = 3 * (MAX_ATTENDEES as usize);
 pub const MAX_UNITS: usize = BEFORE + 2 * MAX_ENTRIES + BEHIND;
 
 // Who writes first and second: their numbers in the frame, and whether they are owners.
-#[derive(Drop)]
+#[derive(Clone, Copy)]
 pub struct Order {
     pub first: u8,
     pub second: u8,

@@ -1,4 +1,6 @@
 // The answer to a frame of two clerks as text: a line of hexadecimal digits for each order of the writes, or only a refusal's number in decimal.
+#![tactic(auto)]
+
 ghost use Rattle.std.specs.Prelude.{◌≡◌, ◌≤◌, ◌<◌, length, take};
 ghost use Rattle.lines.specs.Lines.{frame_of};
 ghost use Rattle.clerks_model.specs.Answer.{two_clerks};

@@ -1,9 +1,13 @@
 // Frames of two clerks on standard input, each line answered as if it were the only one: tools/clerks_cases.py made the lines and the answers.
+#![tactic(auto)]
+
 ghost use Rattle.std.specs.Prelude.{◌≤◌, length};
 ghost use Rattle.clerks_lines.specs.Text.{text_bytes};
 
 use clerks_lines::TEXT;
-use libc::STDOUT_FILENO;
+
+// The file number of standard output.
+const STDOUT_FILENO: i32 = 1;
 
 fn answer(line: &[u8], text: &mut [u8])
     requires { text_bytes ≤ length text.old }
@@ -13,7 +17,7 @@ fn answer(line: &[u8], text: &mut [u8])
 }
 
 // Nothing says that there is a last line, so the loop counts its turns down, from a number that no run uses up.
-fn main() {
+fn main(rt: HostRuntime) {
     let mut chunk = io::large_buffer();
     let mut line = [0u8; lines::LINE];
     let mut text = [0u8; TEXT];
@@ -21,7 +25,7 @@ fn main() {
     let mut end: usize = 0;
     let mut turns = u64::MAX;
     while 0 < turns {
-        let p = input::read_line(&mut chunk, &mut line, at, end);
+        let p = input::read_line(rt.stdin(), &mut chunk, &mut line, at, end);
         let have = p.have;
         if !p.whole {
             return;

@@ -1,4 +1,6 @@
 // Time: edits that are past their expiry.
+#![tactic(auto)]
+
 ghost use Rattle.std.specs.Prelude.{[], ◌∷◌, drop};
 ghost use Rattle.std.proofs.Math.Option.{some};
 ghost use Rattle.format.specs.Format.{stamp};

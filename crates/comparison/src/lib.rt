@@ -1,4 +1,6 @@
 // Encoded parts: compared, judged, and taken out of the bytes around them.
+#![tactic(auto)]
+
 ghost use Rattle.std.specs.Prelude.{◌≡◌};
 ghost use Rattle.model.specs.Maps.{same_text};
 ghost use Rattle.model.specs.Merge.{lower, verdict};
@@ -62,7 +64,7 @@ pub const CONFLICTS: u8 = 1;
 
 pub const REFUSED: u8 = 2;
 
-#[derive(Drop)]
+#[derive(Clone, Copy)]
 pub enum Verdict {
     Theirs,
     Ours,

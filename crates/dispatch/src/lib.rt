@@ -1,4 +1,6 @@
 // One input: which function handles it.
+#![tactic(auto)]
+
 ghost use Rattle.std.specs.Prelude.{◌≡◌};
 ghost use Rattle.dispatch.specs.Inputs.{syncs, answers};
 ghost use Rattle.model.specs.Formats.{input_f, outcome_f};

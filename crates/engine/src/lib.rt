@@ -1,4 +1,6 @@
 // The entry: one call of the engine on lent buffers.
+#![tactic(auto)]
+
 ghost use Rattle.std.specs.Prelude.{◌≡◌, ◌++◌, ◌-◌, ◌≤◌, length, take};
 ghost use Rattle.spans.specs.Bytes.{zeros};
 ghost use Rattle.model.specs.Limits.{document01};
@@ -13,7 +15,7 @@ ghost use Rattle.engine.specs.Answers.{lent, returned, fresh, Ends, Steps};
 use frame::{Input, Parsed};
 use machine::Progress;
 
-#[derive(Drop)]
+#[derive(Clone, Copy)]
 pub struct Answer {
     // 0, or the refusal's number
     pub code: u8,

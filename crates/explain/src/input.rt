@@ -1,10 +1,10 @@
 // Lines out of what is read.
 use crate::said::explain;
 use comparison::part;
-use libc::STDIN_FILENO;
+use std::io::{Read, Stdin};
 
 // What is kept between two reads: the number of the line that is read, how many of its bytes there are, and whether the input goes on.
-#[derive(Drop)]
+#[derive(Clone, Copy)]
 pub struct Kept {
     pub number: u64,
     pub have: usize,
@@ -12,10 +12,13 @@ pub struct Kept {
 }
 
 // Reads once, and explains the lines that end there. The last line may lack its line feed.
-pub fn read_some(state: &mut [u8], line: &mut [u8], kept: Kept) -> Kept {
+pub fn read_some(stdin: Stdin, state: &mut [u8], line: &mut [u8], kept: Kept) -> Kept {
     let mut chunk = io::large_buffer();
-    let got = libc::read(STDIN_FILENO, &mut chunk);
-    let n = io::count(got, &chunk);
+    let mut from = stdin;
+    let n = match from.read(&mut chunk) {
+        Ok(n) => n,
+        Err(_) => 0,
+    };
     if 0 < n {
         return split(state, line, kept, part(&chunk, 0, n));
     }

@@ -1,4 +1,6 @@
 // The requests in flight: what each is for, dropping those of a pass, and the names of the Refreshes.
+#![tactic(auto)]
+
 ghost use Rattle.std.specs.Prelude.{◌≡◌, not, ℕ, ◌+◌, ◌≤◌, ◌<◌, length, take, drop, get_or, List as Vec, []};
 ghost use Rattle.spans.specs.Bytes.{zeros};
 ghost use Rattle.model.specs.Event.{Text};
@@ -15,14 +17,14 @@ use state::Kind;
 use tables::Place;
 
 // What a request is for. The name of a listing is empty.
-#[derive(Drop)]
+#[derive(Clone, Copy)]
 pub struct Asking {
     pub kind: Kind,
     pub name: Name,
 }
 
 // What a request is for, if it is in flight.
-#[derive(Drop)]
+#[derive(Clone, Copy)]
 pub struct Asked {
     pub found: bool,
     pub kind: Kind,
@@ -30,7 +32,7 @@ pub struct Asked {
 }
 
 // Names, 33 bytes each.
-#[derive(Drop)]
+#[derive(Clone, Copy)]
 pub struct NameList {
     pub count: usize,
     pub bytes: [u8; 792],

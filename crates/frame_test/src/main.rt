@@ -1,5 +1,7 @@
 // What becomes of damaged frames: of a good one of each kind, how many proper prefixes, how many copies with a byte more and how many with a
 // byte changed are still frames.
+#![tactic(auto)]
+
 mod damage;
 
 use damage::copies_of;

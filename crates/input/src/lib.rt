@@ -1,12 +1,14 @@
 // The lines of standard input. It is read in chunks, and a line may lie in several.
+#![tactic(auto)]
+
 ghost use Rattle.std.specs.Prelude.{[], ◌≤◌, length, take};
 ghost use Rattle.input.specs.Ready.{Ready, Takes, Reads, between};
 ghost use Rattle.input.specs.Only.{OnlyRead};
 
-use libc::STDIN_FILENO;
+use std::io::{Read, Stdin};
 
 // What is left of the chunk lies from `at` to `end`; `have` bytes of the line are kept.
-#[derive(Drop)]
+#[derive(Clone, Copy)]
 pub struct Input {
     pub at: usize,
     pub end: usize,
@@ -44,8 +46,19 @@ pub fn take_part(chunk: &[u8], line: &mut [u8], at: usize, end: usize, have: usi
     }
 }
 
+// Reads once, and says how many bytes came: 0 where the input has ended, and where it cannot be read.
+pub fn read_some(stdin: Stdin, chunk: &mut [u8]) -> usize
+    ensures { result ≤ length chunk.new }
+{
+    let mut from = stdin;
+    match from.read(chunk) {
+        Ok(n) => n,
+        Err(_) => 0,
+    }
+}
+
 // Goes on with a line, after a read where nothing is left of the chunk. The last line may lack its line feed.
-fn read_part(chunk: &mut [u8], line: &mut [u8], p: Input) -> Input
+fn read_part(stdin: Stdin, chunk: &mut [u8], line: &mut [u8], p: Input) -> Input
     requires { Ready chunk.old line.old p }
     ensures { Reads (take p.have line.old) (between p.at p.end chunk.old) chunk.new line.new result }
 {
@@ -53,8 +66,7 @@ fn read_part(chunk: &mut [u8], line: &mut [u8], p: Input) -> Input
     if p.at < p.end {
         return take_part(chunk, line, p.at, p.end, have);
     }
-    let got = libc::read(STDIN_FILENO, chunk);
-    let n = io::count(got, chunk);
+    let n = read_some(stdin, chunk);
     if n == 0 {
         return Input {
             at: 0,
@@ -68,7 +80,7 @@ fn read_part(chunk: &mut [u8], line: &mut [u8], p: Input) -> Input
 }
 
 // Reads the next line. Nothing says that it ends, so the loop counts its turns down, from a number that no run uses up.
-pub fn read_line(chunk: &mut [u8], line: &mut [u8], at: usize, end: usize) -> Input
+pub fn read_line(stdin: Stdin, chunk: &mut [u8], line: &mut [u8], at: usize, end: usize) -> Input
     requires { (at ≤ end) × (end ≤ length chunk.old) }
     ensures { Reads [] (between at end chunk.old) chunk.new line.new result }
 {
@@ -87,25 +99,25 @@ pub fn read_line(chunk: &mut [u8], line: &mut [u8], at: usize, end: usize) -> In
         if p.ended {
             return p;
         }
-        p = read_part(chunk, line, p);
+        p = read_part(stdin, chunk, line, p);
         turns -= 1;
     }
     p
 }
 
 // The one line of an input: whether there is just one, and how many bytes of it are kept.
-#[derive(Drop)]
+#[derive(Clone, Copy)]
 pub struct Only {
     pub one: bool,
     pub have: usize,
 }
 
 // Reads the one line of what is left of the chunk and of standard input. Of a second line no more is kept than tells that there is one.
-pub fn only_line(chunk: &mut [u8], line: &mut [u8], at: usize, end: usize) -> Only
+pub fn only_line(stdin: Stdin, chunk: &mut [u8], line: &mut [u8], at: usize, end: usize) -> Only
     requires { (at ≤ end) × (end ≤ length chunk.old) × (1 ≤ length line.old) }
     ensures { OnlyRead (between at end chunk.old) line.new result }
 {
-    let first = read_line(chunk, line, at, end);
+    let first = read_line(stdin, chunk, line, at, end);
     let have = first.have;
     if !first.whole {
         return Only {
@@ -117,7 +129,7 @@ pub fn only_line(chunk: &mut [u8], line: &mut [u8], at: usize, end: usize) -> On
         return Only { one: true, have };
     }
     let mut more = [0u8; 1];
-    let second = read_line(chunk, &mut more, first.at, first.end);
+    let second = read_line(stdin, chunk, &mut more, first.at, first.end);
     if second.whole {
         return Only {
             one: false,

@@ -1,4 +1,6 @@
 // Lines of hexadecimal digits: a frame is read from one, bytes are written as one, and input that comes in chunks is split into them.
+#![tactic(auto)]
+
 ghost use Rattle.std.specs.Prelude.{◌≡◌, [], ◌∷◌, ◌++◌, ◌+◌, ◌≤◌, ◌<◌, length, take, drop};
 ghost use Rattle.lines.specs.Lines.{digit, digits, value, pair, frame_of, line_length, max_frame, Puts};
 ghost use Rattle.lines.specs.Pairs.{meant_pair};
@@ -38,7 +40,7 @@ fn value(c: u8) -> u8
 }
 
 // What two digits stand for.
-#[derive(Drop)]
+#[derive(Clone, Copy)]
 enum Pair {
     Byte(u8),
     Bad,

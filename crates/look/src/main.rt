@@ -1,4 +1,6 @@
 // What `bay` prints, and after each answer a line of what can be read of the state.
-fn main() {
-    serve::serve(true);
+#![tactic(auto)]
+
+fn main(rt: HostRuntime) {
+    serve::serve(rt.stdin(), true);
 }

@@ -1,4 +1,6 @@
 // What can be read of a state, as one line of digits: the cursor, the records, the numbers in flight, and how many edits wait for each resource.
+#![tactic(auto)]
+
 ghost use Rattle.std.specs.Prelude.{◌≡◌, [], ◌∷◌, ◌++◌, ◌+◌, ◌≤◌, length};
 ghost use Rattle.format.specs.Format.{option, list, number};
 ghost use Rattle.lines.specs.Lines.{Puts};

@@ -1,4 +1,6 @@
 // The step in progress: the work buffer, the output, and how far the step has come. Effects and requests, and what is learned.
+#![tactic(auto)]
+
 ghost use Rattle.std.specs.Prelude.{◌≡◌, cond, ◌||◌, ◌<◌, length, eqb, ltb};
 ghost use Rattle.tables.specs.Table.{text};
 ghost use Rattle.model.specs.Seam.{Request};
@@ -19,7 +21,7 @@ use pens::Pen;
 use state::{Kind, Numbered};
 
 // How far a step has come: 0 or its refusal, and where the next effect goes.
-#[derive(Drop)]
+#[derive(Clone, Copy)]
 pub struct Progress {
     pub code: u8,
     pub at: usize,

@@ -1,6 +1,8 @@
 // merge.rs: the three-way merge of an event, over encoded fields, an encoded event and an encoded role. Whatever bytes follow one of
 // them are not looked at. Each thing that a merge hands back has a function of its own; refusal 6 is `merged_attendees` over 8. What is
 // lent has one lifetime, so that parts of two buffers can be lent together.
+#![tactic(auto)]
+
 ghost use Rattle.std.specs.Prelude.{◌≡◌, ◌≤◌, ◌∷◌, length};
 ghost use Rattle.model.specs.Event.{NormalizedEvent, ProviderEvent};
 ghost use Rattle.model.specs.Parts.{Role};

@@ -1,8 +1,12 @@
 // Merges on standard input, answered as the published Rust answers them: tools/merge_cases.py made the cases and the answers.
+#![tactic(auto)]
+
 use comparison::part;
 use frame::Cursor;
-use libc::STDOUT_FILENO;
 use pens::Pen;
+
+// The file number of standard output.
+const STDOUT_FILENO: i32 = 1;
 
 fn write(bytes: &[u8]) {
     io::write_all(STDOUT_FILENO, bytes);

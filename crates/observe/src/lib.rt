@@ -1,4 +1,6 @@
 // What is learned of a resource: doubt, observations, and what is forgotten again.
+#![tactic(auto)]
+
 mod forget;
 mod observations;
 mod open_pass;

@@ -1,4 +1,6 @@
 // The cursor and the header of the open pass: whether one is open, where its listing goes on from, and the cursor that it ends with.
+#![tactic(auto)]
+
 ghost use Rattle.std.specs.Prelude.{◌≡◌, ◌∷◌, ◌+◌, ◌≤◌, length, take, drop, get_or};
 ghost use Rattle.std.proofs.Math.Option.{none, some};
 ghost use Rattle.model.specs.Seam.{ListFrom};
@@ -12,7 +14,7 @@ ghost use Rattle.state.specs.Contract.{HasState, Reads, Edits};
 ghost use Rattle.pass_header.specs.From.{text_of, from_in, FromAs};
 
 // The case of where a listing goes on from; its text stands beside it.
-#[derive(Drop)]
+#[derive(Clone, Copy)]
 pub enum FromKind {
     Start,
     Since,
@@ -20,7 +22,7 @@ pub enum FromKind {
 }
 
 // A case's byte and a text, in their width.
-#[derive(Drop)]
+#[derive(Clone, Copy)]
 pub struct Field {
     pub bytes: [u8; 34],
 }

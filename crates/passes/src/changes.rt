@@ -146,7 +146,7 @@ fn list_change(work: &mut [u8], p: Progress, frame: &[u8], id: u64, change: Chan
 }
 
 // How far the step came, and the place after the changes.
-#[derive(Drop)]
+#[derive(Clone, Copy)]
 pub struct Walked {
     pub progress: Progress,
     pub place: Cursor,

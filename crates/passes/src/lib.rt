@@ -1,4 +1,6 @@
 // The reading side of sync.rs: a pass over the provider's listing, from its first page to its commit.
+#![tactic(auto)]
+
 mod changes;
 mod commits;
 mod pages;

@@ -1,5 +1,7 @@
 // What is said of a step through a frame: what stands at a place, and the phrase that says it. The words go into a lent slice, so that a
 // program writes a line at once. Nothing is written that could do harm to a terminal, whatever a frame holds (specs/Shown.antt).
+#![tactic(auto)]
+
 mod reading;
 mod rules;
 mod saying;

@@ -8,7 +8,7 @@ use frame::{
 
 // Whether it is what it should be, and the phrase that says it; the place, the number there, the limit of what may stand there, and the
 // place after it.
-#[derive(Drop)]
+#[derive(Clone, Copy)]
 pub struct Found {
     pub ok: bool,
     pub phrase: u8,

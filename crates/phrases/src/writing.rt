@@ -4,8 +4,10 @@ ghost use Rattle.phrases.specs.Shown.{front_of, Shown, Ready, Shows, Decimal};
 
 use crate::visible::{byte_at, front};
 use comparison::part;
-use libc::STDOUT_FILENO;
 use pens::Pen;
+
+// The file number of standard output.
+const STDOUT_FILENO: i32 = 1;
 
 // Writes to standard output, where nothing goes that could do harm to a terminal.
 pub fn print(bytes: &[u8])

@@ -1,5 +1,8 @@
 // What test programs print: labels with an answer behind each, some to a line.
-use libc::STDOUT_FILENO;
+#![tactic(auto)]
+
+// The file number of standard output.
+const STDOUT_FILENO: i32 = 1;
 
 pub fn show(bytes: &[u8]) {
     io::write_all(STDOUT_FILENO, bytes);

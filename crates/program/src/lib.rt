@@ -1,4 +1,6 @@
 // The program of docs/FRAMES.md, "The program's lines", on lent buffers: the answer to one line.
+#![tactic(auto)]
+
 ghost use Rattle.std.specs.Prelude.{◌≡◌, ◌+◌, ◌*◌, ◌-◌, ◌/◌, ◌%◌, ◌≤◌, ◌<◌, length, take, drop};
 ghost use Rattle.lines.specs.Lines.{Puts};
 ghost use Rattle.program.specs.Program.{line, answer_bytes};
@@ -12,7 +14,7 @@ const HEAD: usize = 7;
 
 // ---- the effects' lines
 
-#[derive(Drop)]
+#[derive(Clone, Copy)]
 struct Listed {
     next: usize,
     count: usize,
@@ -78,7 +80,7 @@ fn put_answer(text: &mut [u8], code: u8, effects: &[u8]) -> usize
 }
 
 // How many bytes of the text the answer takes, and how many of the output its effects.
-#[derive(Drop)]
+#[derive(Clone, Copy)]
 pub struct Reply {
     pub text: usize,
     pub effects: usize,

@@ -22,7 +22,7 @@ use spans::Order;
 use tables::Place;
 
 // What becomes of an edit that follows another: it stays apart, its operation is folded into the other's, or the two cancel each other.
-#[derive(Drop)]
+#[derive(Clone, Copy)]
 pub enum Folded {
     Apart,
     Into(usize),

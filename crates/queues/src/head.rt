@@ -21,7 +21,7 @@ use state::Kind;
 use tables::Place;
 
 // What the start of a head is.
-#[derive(Drop)]
+#[derive(Clone, Copy)]
 enum Beginning {
     Nothing,
     Create,

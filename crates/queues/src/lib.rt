@@ -1,4 +1,6 @@
 // The writing side of a step: the queues of waiting edits.
+#![tactic(auto)]
+
 mod coalescing;
 mod enqueuing;
 mod expiry;

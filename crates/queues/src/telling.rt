@@ -18,7 +18,7 @@ use names::Name;
 use tables::Place;
 
 // How an edit ends: applied, or rejected with a reason of the engine's or with the provider's.
-#[derive(Drop)]
+#[derive(Clone, Copy)]
 pub enum Ending {
     Applied,
     Rejected(Refusal),

@@ -10,7 +10,7 @@ ghost use Rattle.regions.specs.Tests.{skips_value, is_field};
 use frame::Cursor;
 
 // What stands in a field.
-#[derive(Drop)]
+#[derive(Clone, Copy)]
 pub enum Value {
     Name,
     OptionText,

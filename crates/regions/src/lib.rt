@@ -1,4 +1,6 @@
 // Whether the regions of a lent state buffer, all but the waiting entries', are the bytes of values that fit: for any bytes.
+#![tactic(auto)]
+
 mod field;
 mod others;
 mod pass;

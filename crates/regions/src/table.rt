@@ -8,7 +8,7 @@ ghost use Rattle.regions.specs.Inside.{TableIn};
 use crate::field::{Value, field_at, field_in};
 
 // What stands in a slot of a table.
-#[derive(Drop)]
+#[derive(Clone, Copy)]
 pub enum Slot {
     Record,
     Staged,

@@ -4,6 +4,8 @@
 //   >LINE    a line for the program `bay`: a frame's digits, or what else may stand there
 //   others   the lines of the published engine's answer to it
 // For each run the program prints how many frames it has, and how many of them were answered otherwise.
+#![tactic(auto)]
+
 mod tally;
 
 ghost use Rattle.std.specs.Prelude.{◌≡◌, ◌≤◌, length};

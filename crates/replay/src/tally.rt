@@ -2,7 +2,7 @@
 use comparison::same;
 use printing::{number, show};
 
-#[derive(Drop)]
+#[derive(Clone, Copy)]
 pub struct Tally {
     // of the text that answers the last frame: what is compared, its end, and whether all of that was the same
     at: usize,

@@ -1,4 +1,6 @@
 // Restarts: what was in flight is lost, and is asked for again.
+#![tactic(auto)]
+
 ghost use Rattle.std.specs.Prelude.{◌≡◌, List as Vec, [], ℕ, ◌<◌, length, get_or};
 ghost use Rattle.model.specs.Event.{Text};
 ghost use Rattle.model.specs.Machine.{for_each, in_pass};

@@ -1,4 +1,6 @@
 // The sender in a lent buffer, for programs that hold it as bytes. Every function takes any bytes, and refuses those that are no sender's.
+#![tactic(auto)]
+
 mod check;
 mod places;
 mod read;
@@ -20,7 +22,7 @@ pub const WRONG_LENGTH: u8 = 1;
 pub const NO_SENDER: u8 = 2;
 
 // What a use answers: 0 or the refusal; the call that was granted, if one was, else zeros.
-#[derive(Drop)]
+#[derive(Clone, Copy)]
 pub struct Granted {
     pub code: u8,
     pub granted: bool,
@@ -28,7 +30,7 @@ pub struct Granted {
 }
 
 // A sender, or why there is none.
-#[derive(Drop)]
+#[derive(Clone, Copy)]
 struct Held {
     code: u8,
     sender: Sender,

@@ -1,4 +1,6 @@
 // A use of the sender as a line of hexadecimal digits, and its answer: one byte (0 or the refusal), two bytes that count grants; then a line for the grant.
+#![tactic(auto)]
+
 ghost use Rattle.std.specs.Prelude.{◌≡◌, false, ◌∷◌, ◌+◌, ◌≤◌, length, take};
 ghost use Rattle.format.specs.Format.{whole_of};
 ghost use Rattle.lines.specs.Lines.{max_frame, Puts};
@@ -38,7 +40,7 @@ const OF_A_CALL: usize = 1 + CALL;
 const OF_A_MILL: usize = 2;
 
 // What a frame asks for.
-#[derive(Drop)]
+#[derive(Clone, Copy)]
 enum Asked {
     Enter(u8, u64),
     Reply(u8, u64),

@@ -1,4 +1,6 @@
 // The sender that stands after the engines: eight mills on one account take turns at four calls. A sender goes in by value and comes back.
+#![tactic(auto)]
+
 ghost use Rattle.std.specs.Prelude.{◌≡◌, false, List, [], ◌∷◌, ◌++◌, ℕ, ◌+◌, ◌≤◌, ◌<◌, length, take, drop};
 ghost use Rattle.sender_turns.specs.Sender.{Use, mills, calls, lane_size, fresh, after, rest_of, same_call};
 ghost use Rattle.sender_turns.specs.Laid.{lane_of, laid_out, no_call, Answers};
@@ -20,20 +22,20 @@ pub const NO_SUCH_MILL: u8 = 11;
 pub const LANE_FULL: u8 = 12;
 
 // A mill's requests that wait, the oldest first. Places past the count are zero.
-#[derive(Drop)]
+#[derive(Clone, Copy)]
 pub struct Lane {
     pub numbers: [u64; LANE],
     pub count: usize,
 }
 
-#[derive(Drop)]
+#[derive(Clone, Copy)]
 pub struct Call {
     pub mill: u8,
     pub number: u64,
 }
 
 // The calls out are the first `out`, in the order of their grants; places past them are zero. `turn` is the mill that is asked first.
-#[derive(Drop)]
+#[derive(Clone, Copy)]
 pub struct Sender {
     pub lanes: [Lane; MILLS],
     pub calls: [Call; CALLS],
@@ -42,7 +44,7 @@ pub struct Sender {
 }
 
 // What a use answers: 0 or the refusal; the call that was granted, if one was; the sender after it.
-#[derive(Drop)]
+#[derive(Clone, Copy)]
 pub struct Told {
     pub code: u8,
     pub granted: bool,

@@ -1,9 +1,14 @@
 // The program of docs/FRAMES.md, "The program's lines", over standard input and output: each line is answered before more is read.
+#![tactic(auto)]
+
 ghost use Rattle.std.specs.Prelude.{length};
 ghost use Rattle.input.specs.Served.{Served};
 ghost use Rattle.serve.specs.Serves.{after_line, Lent, Replies, Replied};
 
-use libc::STDOUT_FILENO;
+use std::io::Stdin;
+
+// The file number of standard output.
+const STDOUT_FILENO: i32 = 1;
 
 // The longest answer, with what can be read behind it.
 const TEXT: usize = program::TEXT + looks::LOOK;
@@ -49,6 +54,7 @@ fn answer(
 
 // Nothing says that there is a last line, so the loop counts its turns down, from a number that no run uses up.
 fn answer_all(
+    stdin: Stdin,
     look: bool,
     state: &mut [u8],
     work: &mut [u8],
@@ -65,7 +71,7 @@ fn answer_all(
     let mut end: usize = 0;
     let mut turns = u64::MAX;
     while 0 < turns {
-        let p = input::read_line(chunk, line, at, end);
+        let p = input::read_line(stdin, chunk, line, at, end);
         let have = p.have;
         if !p.whole {
             return;
@@ -83,7 +89,7 @@ fn answer_all(
 }
 
 // Answers the lines of standard input, from a fresh state; with `look`, each with what can be read of the state then.
-pub fn serve(look: bool) {
+pub fn serve(stdin: Stdin, look: bool) {
     let mut state = [0u8; engine::STATE];
     let mut work = [0u8; engine::STATE];
     let mut out = [0u8; frame::MAX_EFFECTS];
@@ -93,6 +99,6 @@ pub fn serve(look: bool) {
     let mut chunk = io::large_buffer();
     access::fresh(&mut state);
     answer_all(
-        look, &mut state, &mut work, &mut out, &mut frame, &mut line, &mut text, &mut chunk,
+        stdin, look, &mut state, &mut work, &mut out, &mut frame, &mut line, &mut text, &mut chunk,
     );
 }

@@ -1,4 +1,6 @@
 // The staged entries of the open pass: a name, and what the listing said of it.
+#![tactic(auto)]
+
 ghost use Rattle.std.specs.Prelude.{◌≡◌, [], ◌∷◌, ◌<◌, length, get_or};
 ghost use Rattle.model.specs.Event.{ProviderEvent};
 ghost use Rattle.model.specs.State.{Staged};
@@ -15,7 +17,7 @@ ghost use Rattle.staged.specs.Staging.{staged_of, may_stage, with_stage, without
 use names::Name;
 use tables::Place;
 
-#[derive(Drop)]
+#[derive(Clone, Copy)]
 pub enum StagedKind {
     Present,
     Unread,

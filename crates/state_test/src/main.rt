@@ -13,6 +13,8 @@
 //   rPLACE           prints the name of the record at the place, and where its event stands
 //   c                prints whether there is a cursor, and its text
 //   others           end what is printed on a line
+#![tactic(auto)]
+
 mod decimal;
 mod reading;
 

@@ -1,4 +1,6 @@
 // The units of an event's fields but its attendees: what each gives to the merged fields, to the conflicts and to the refused.
+#![tactic(auto)]
+
 ghost use Rattle.std.specs.Prelude.{◌≡◌, [], ◌∷◌, ◌-◌};
 ghost use Rattle.comparison.specs.Bytes.{meant_verdict};
 ghost use Rattle.pens.specs.Writing.{Wrote, Listed};

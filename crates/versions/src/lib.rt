@@ -1,4 +1,6 @@
 // The version of an event, by value: what is compared when one event may take another's place.
+#![tactic(auto)]
+
 ghost use Rattle.std.specs.Prelude.{◌≡◌, ◌+◌, ◌-◌, ◌≤◌, ◌<◌, length, take, drop, get_or};
 ghost use Rattle.std.proofs.Math.Option.{some};
 ghost use Rattle.format.specs.Format.{option};
@@ -10,14 +12,14 @@ ghost use Rattle.state.specs.Layout.{padded};
 ghost use Rattle.versions.specs.Versions.{Stands, HasEvent, VersionOf, RevisionAt};
 
 // The revision in the frame's form, zero padded, and the mapper version.
-#[derive(Drop)]
+#[derive(Clone, Copy)]
 pub struct Version {
     pub revision: [u8; 34],
     pub mapper: u64,
 }
 
 // A part of at most 34 bytes, zero padded.
-#[derive(Drop)]
+#[derive(Clone, Copy)]
 struct Padded {
     bytes: [u8; 34],
 }

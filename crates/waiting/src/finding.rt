@@ -17,7 +17,7 @@ use names::Name;
 use tables::Place;
 
 // The resources that have a queue, in order: so many names of 33 bytes.
-#[derive(Drop)]
+#[derive(Clone, Copy)]
 pub struct ResourceNames {
     pub count: usize,
     pub bytes: [u8; 198],

@@ -1,4 +1,6 @@
 // The waiting edits: one table, a slot for each entry, by resource and then in the queue's order.
+#![tactic(auto)]
+
 mod changes;
 mod counting;
 mod finding;

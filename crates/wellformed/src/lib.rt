@@ -1,4 +1,6 @@
 // Whether a lent buffer holds a well-formed state: refusal 2.
+#![tactic(auto)]
+
 mod buffer;
 mod rules;
 mod slot;

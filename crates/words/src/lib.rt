@@ -1,4 +1,6 @@
 // Inputs, answers and effects in words, and frames of two clerks, for those who read them.
+#![tactic(auto)]
+
 mod grammar;
 mod route;
 mod walk;

@@ -4,7 +4,7 @@ use phrases::{after, alternative, rule};
 // How many rules may be open: four more than an attendee's name in an event of a page needs.
 const OPEN: usize = 16;
 
-#[derive(Drop)]
+#[derive(Clone, Copy)]
 pub struct Route {
     pub step: usize,
     pub depth: usize,

@@ -13,7 +13,7 @@ use phrases::{Found, rule, step};
 const TURNS: u32 = 65536;
 
 // Where the walk is in the rules, in the frame and in the text; the phrase that was said last, or 0; whether it goes on.
-#[derive(Drop)]
+#[derive(Clone, Copy)]
 struct Walk {
     route: Route,
     at: usize,

@@ -1,4 +1,6 @@
 // sync.rs, the writing half: planning from a read, the answers to writes, and entries that follow a resource to another name.
+#![tactic(auto)]
+
 ghost use Rattle.std.specs.Prelude.{◌≡◌, false, ◌+◌, ◌≤◌, ◌<◌, length};
 ghost use Rattle.std.proofs.Math.Option.{Option, none, some};
 ghost use Rattle.format.specs.Format.{option};

@@ -1,5 +1,7 @@
 // The engine, the sender and the two clerks for programs in other languages, as include/bay.h declares them. Each function has the contract of the one
 // that it calls, and asks nothing of what it is lent. A second answer is written through a reference.
+#![tactic(auto)]
+
 ghost use Rattle.std.specs.Prelude.{◌≡◌, false, ◌+◌, ◌≤◌, length};
 ghost use Rattle.std.proofs.Math.Option.{none};
 ghost use Rattle.lent.specs.Lent.{part};
