@@ -80,6 +80,7 @@ module _ (address : Text) (b o t : Keyed) where
       → AllStand address (a ∷ as') (extend (Role.Attendee address) b o t v vs)
   unfolding extend
   extended a (some v) as' vs (stands v' e) s = more a v as' vs e s
+  extended a none as' vs x s = elim x [ ]
 
   -- the keys that only ours has give nothing
   extra : (ks : List Key) → (entries_at (Role.Attendee address) b o t (filter (λ key. not (is_some (find t key))) ks)).value ≡ []
@@ -199,8 +200,8 @@ changes [] (c ∷ y) e = absurd (no_sum (length y) (omega (arith, e)))
 changes (b ∷ x) [] e = absurd (no_sum (length x) (omega (arith, e)))
 changes (b ∷ x) (c ∷ y) e = any_byte b c (changes x y (omega (arith, e)))
 
-infixr 5 ◌and-then◌
-◌and-then◌ : {m n : List Bool} {x y u v : Bytes} → SameBut m x y → SameBut n u v → SameBut (m ++ n) (x ++ u) (y ++ v)
+infixr 5 ◌and_then◌
+◌and_then◌ : {m n : List Bool} {x y u v : Bytes} → SameBut m x y → SameBut n u v → SameBut (m ++ n) (x ++ u) (y ++ v)
 end and_then k = k
 equal_byte b h and_then k = equal_byte b (h and_then k)
 any_byte b c h and_then k = any_byte b c (h and_then k)

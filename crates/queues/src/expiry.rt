@@ -38,7 +38,7 @@ pub fn is_due(expiry: Expiry, now: i64) -> bool
 // SyncState::expired
 pub fn expired(work: &[u8], expiry: Expiry) -> bool
     requires { HasState work.now }
-    ensures { Reads (λ s. is_some_and (λ now. is_some_and (λ at. le_z at now) (meant_expiry expiry)) s.now) (now work.entry) result }
+    ensures { Reads (λ s. is_some_and (λ now. is_some_and (λ at. le_z at now) (meant_expiry expiry)) s.now) work.now result }
 {
     let now = state::now_bits(work);
     match now {

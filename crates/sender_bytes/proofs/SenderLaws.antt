@@ -1,7 +1,7 @@
 -- A struct passes the tests exactly where it is a sender's that uses lead to. Assumes nothing.
 use Prim.Native.Nat.{ℕ, zero, suc, ◌+◌, ◌-◌, ◌≤◌, ◌<◌}
 use native.Mathlib.Omega.{arith}
-use mathlib.Core.Path.{◌≡◌, refl, sym, ap, ap₂, ◌∙◌}
+use mathlib.Core.Path.{◌≡◌, refl, sym, ap, ap₂, ◌∙◌, subst}
 use mathlib.Core.List.{List, [], ◌∷◌, ◌++◌, map, append-nil}
 use mathlib.Core.Bool.{Bool, true, false, ◌&&◌, false≢true}
 use borrow.Author.Tests.{eq-eqb, eqb-true, le-leb, leb-true, lt-ltb, ltb-true, le-ltb, ltb-false}
@@ -162,8 +162,9 @@ places_there : (at n : ℕ) (out : List Call) → All (λ c. c.0 < mills) out �
 unfolding places_ok place_ok call_of
 places_there at n [] h = places_free (at + 0) at n (omega arith)
 places_there at n (c ∷ out) h =
-    let k : at + suc (length out) ≡ at + 1 + length out = omega arith in
-    rw (k, lt-ltb at (at + 1 + length out) (omega arith), lt-ltb c.0 mills h.0) (places_there (at + 1) n out h.1)
+    let k : at + 1 + length out ≡ at + length (c ∷ out) = omega arith in
+    subst (λ (m : ℕ). places_ok m at (call_of c ∷ (map call_of out ++ replicate n no_call)) ≡ true) k
+    (rw (lt-ltb at (at + 1 + length out) (omega arith), lt-ltb c.0 mills h.0) (places_there (at + 1) n out h.1))
 
 last_at : (l : List Call) → last_mill l ≡ (get_or (map call_of l) (length l - 1) no_call).mill
 unfolding last_mill call_of

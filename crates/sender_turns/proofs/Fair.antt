@@ -107,6 +107,7 @@ module _ (m : ℕ) where
           gap = gap;
           waits = rw (lane_other g m (rest_of (lane g s.lanes)) s.lanes other) n.waits;
         }))
+        go none f ih = elim f [ ]
 
     all_meet : {d : ℕ} {s : Sender} → Near d s → Granted d (grant_all s)
     unfolding grant_all

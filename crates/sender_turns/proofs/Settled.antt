@@ -315,6 +315,7 @@ next_only m t l lanes q p e f w =
     go : (d : ℕ) (r : Option ℕ) → next_mill mills t (set lanes m l) ≡ r → Found m d r → r ≡ some m
     go d (some n) h itself = refl
     go d (some n) h (before g d' low n' near gap) = absurd (subst (λ (l : List ℕ). T (not (is_empty l))) (lane_other m g l lanes (λ e. n' (sym e)) ∙ f g) (next_waits mills t (set lanes m l) g h))
+    go d none h f = elim f [ ]
 
 put_back : (mill : ℕ) (lanes : List (List ℕ)) → lane mill lanes ≡ [] → set lanes mill [] ≡ lanes
 unfolding lane

@@ -117,6 +117,7 @@ pub data Found (m d : ℕ) : Option ℕ → Type 0 where
 farther : (m d : ℕ) (r : Option ℕ) → Found m d r → Found m (suc d) r
 farther m d (some n) itself = itself
 farther m d (some n) (before g d' p n' l h) = before g d' p n' (omega arith) h
+farther m d none f = elim f [ ]
 
 pub found : (m asked t d : ℕ) (lanes : List (List ℕ)) → t < mills → m < mills → d < asked → Gap t m d → Waiting m lanes → Found m d (next_mill asked t lanes)
 unfolding next_mill if◌then◌else◌
@@ -157,6 +158,7 @@ none_found lanes t e p n m = go (leb mills m) refl
   where
     no_case : (d : ℕ) (r : Option ℕ) → Found m d r → r ≡ none → ⊥
     no_case d (some g) f e = none-ne-some g (sym e)
+    no_case d none f e = elim f [ ]
 
     go : (c : Bool) → leb mills m ≡ c → lane m lanes ≡ []
     go true h = lane_past m lanes (omega (arith, leb→le mills m (rw h tt)))

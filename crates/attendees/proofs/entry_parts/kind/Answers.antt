@@ -1,0 +1,9 @@
+use Rattle.attendees.proofs.Laws as laws
+use borrow.Author.Rules.{rules}
+use Rattle.attendees.proofs.entry_parts.kind.Goals as goal
+
+pub returns-then-entry-lt2 : goal.returns-then-entry-lt2
+returns-then-entry-lt2 c = laws.kind_short c.args.entry.now (search rules)
+
+pub returns : goal.returns
+returns c = laws.kind_long c.args.entry.now (search rules)

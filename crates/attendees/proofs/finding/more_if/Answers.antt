@@ -1,0 +1,8 @@
+use native.Mathlib.Omega.{arith}
+use Rattle.attendees.proofs.finding.more_if.Goals as goal
+
+pub returns-then-b : goal.returns-then-b
+returns-then-b c = rw c.if-b.true
+
+pub returns : goal.returns
+returns c = rw c.if-b.false (omega arith)

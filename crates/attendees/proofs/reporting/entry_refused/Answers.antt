@@ -1,0 +1,13 @@
+use Rattle.attendees.proofs.Laws as laws
+use Rattle.pens.proofs.Laws as pens
+use mathlib.Core.Path.{ap}
+use mathlib.Core.List.{List, [], ◌∷◌}
+use Prim.Native.Nat.{ℕ}
+use lib.ListN.{length}
+use Rattle.attendees.proofs.reporting.entry_refused.Goals as goal
+
+pub text-p-requires : goal.text-p-requires
+text-p-requires c = laws.shown_short c.args.b.now c.args.o.now c.args.t.now _ c.display_address.ensures.bytes
+
+pub returns : goal.returns
+returns c = pens.listed_as (pens.listed_one _ _ (pens.wrote_then c.byte.ensures (pens.wrote_then c.byte-2.ensures c.text-p.ensures)) c.more-n.ensures) (ap (λ (a : List ℕ). (4 ∷ 1 ∷ length a ∷ a) ∷ []) c.display_address.ensures.bytes)

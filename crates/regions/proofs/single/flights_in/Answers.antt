@@ -1,0 +1,5 @@
+use Rattle.regions.proofs.Places as places
+use Rattle.regions.proofs.single.flights_in.Goals as goal
+
+pub returns : goal.returns
+returns c = places.flights_both c.args.state.now c.requires c.table_at.ensures
