@@ -10,7 +10,7 @@ use Rattle.spans.proofs.move_down.Goals as goal
 
 pub loop-i-preserved : goal.loop-i-preserved
 loop-i-preserved c =
-        let s = c.args.s.now in
+    let s = c.args.s.now in
     let by = c.args.by in
     let i = c.loop-i.i in (
       search rules,
@@ -22,7 +22,7 @@ loop-i-preserved c =
 
 pub returns : goal.returns
 returns c =
-        let s = c.args.s.now in
+    let s = c.args.s.now in
     let by = c.args.by in
     let e : c.loop-i.i ≡ length s - by = omega arith in
     c.loop-i.invariant.2 ∙ rw (e, take_all (length s - by) (drop by s) (simp length-drop (omega arith)))

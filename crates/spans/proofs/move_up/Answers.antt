@@ -10,9 +10,9 @@ loop-j-init c = (search rules, search rules, laws.up_start c.args.s.now c.args.b
 
 pub loop-j-preserved : goal.loop-j-preserved
 loop-j-preserved c =
-        (search rules, search rules, laws.up_turn c.args.s.now c.loop-j.s c.args.by c.loop-j.j (search rules) (search rules) (search rules) c.loop-j.invariant.2)
+    (search rules, search rules, laws.up_turn c.args.s.now c.loop-j.s c.args.by c.loop-j.j (search rules) (search rules) (search rules) c.loop-j.invariant.2)
 
 pub returns : goal.returns
 returns c =
-        let e : c.loop-j.j ≡ 0 = omega arith in
+    let e : c.loop-j.j ≡ 0 = omega arith in
     c.loop-j.invariant.2 ∙ rw (e, zero-add)

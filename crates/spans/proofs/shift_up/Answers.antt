@@ -9,4 +9,4 @@ slice_bounds-zero-end-2 c = sym (length-take-le _ _ (search rules))
 
 pub returns : goal.returns
 returns c =
-        laws.shift_up_law c.args.s.now c.move_up.new.s c.zero.new.s c.args.by (search rules) c.move_up.ensures c.zero.ensures
+    laws.shift_up_law c.args.s.now c.move_up.new.s c.zero.new.s c.args.by (search rules) c.move_up.ensures c.zero.ensures

@@ -9,15 +9,14 @@ use lib.Seq.{drop-length}
 use Rattle.spans.proofs.zero.Goals as goal
 
 pub loop-i-preserved : goal.loop-i-preserved
-loop-i-preserved c =
-    (
-      search rules,
-      search rules,
-      ap (λ (d : List ℕ). set d c.loop-i.i 0) c.loop-i.invariant.2
-          ∙ fill_more c.loop-i.i 0 c.args.s.now (search rules),
-    )
+loop-i-preserved c = (
+  search rules,
+  search rules,
+  ap (λ (d : List ℕ). set d c.loop-i.i 0) c.loop-i.invariant.2
+      ∙ fill_more c.loop-i.i 0 c.args.s.now (search rules),
+)
 
 pub returns : goal.returns
 returns c =
-        let e : c.loop-i.i ≡ length c.args.s.now = omega arith in
+    let e : c.loop-i.i ≡ length c.args.s.now = omega arith in
     c.loop-i.invariant.2 ∙ rw (e, drop-length, append-nil)

@@ -1,0 +1,27 @@
+use native.Mathlib.Nat.{sub-zero}
+use Rattle.model.specs.Limits.{max_attendees}
+use Rattle.model.specs.Formats.{attendee_f}
+use Rattle.model.proofs.FormatsLaws.{attendee_f_law}
+use Rattle.frame.proofs.Skips.{skips_list, skip_n_step, skip_n_end}
+use mathlib.Core.Path.{sym, ◌∙◌}
+use borrow.Author.Rules.{rules}
+use Rattle.frame.proofs.Cursor.skip_attendees.Goals as goal
+
+pub loop-i-init : goal.loop-i-init
+loop-i-init c = (search rules, rw sub-zero)
+
+pub loop-i-preserved : goal.loop-i-preserved
+loop-i-preserved c =
+    let l = c.loop-i in
+    let n = c.count-count.result.value in
+    let s = c.args.frame.now in
+    (search rules, l.invariant.1 ∙ rw c.skip_attendee-c.ensures (skip_n_step attendee_f s n l.i l.c (search rules)))
+
+pub returns : goal.returns
+unfolding max_attendees
+returns c =
+    let l = c.loop-i in
+    let b = c.count-count in
+    let a = c.args in
+    let s = a.frame.now in
+    sym (skips_list attendee_f_law s max_attendees a.self b.result.next b.result.value b.ensures ∙ (l.invariant.1 ∙ skip_n_end attendee_f s b.result.value l.i l.c (search rules)))

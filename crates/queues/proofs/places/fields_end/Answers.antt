@@ -1,0 +1,8 @@
+use Rattle.model.proofs.FormatsLaws.{fields_f_law}
+use Rattle.frame.specs.declared.Cursor.{Cursor}
+use mathlib.Core.Path.{ap}
+use Rattle.queues.proofs.Parts as parts
+use Rattle.queues.proofs.places.fields_end.Goals as goal
+
+pub returns : goal.returns
+returns c = parts.end_stands fields_f_law c.args.src.now c.args.at _ (ap (λ (c : Cursor). c.at) c.skip_fields.ensures)

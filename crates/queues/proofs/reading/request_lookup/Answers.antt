@@ -1,0 +1,11 @@
+use Rattle.machine.proofs.Steps as steps
+use Rattle.model.specs.Calls.{Effect}
+use Rattle.model.specs.Seam.{Request}
+use mathlib.Core.Path.{ap}
+use Rattle.queues.proofs.reading.request_lookup.Goals as goal
+
+pub lookup-pen-requires : goal.lookup-pen-requires
+lookup-pen-requires c = steps.short_text _ _ c.text_of.ensures c.requires.named
+
+pub returns : goal.returns
+returns c = steps.requested _ _ c.next_request-id.ensures c.reserve-q.ensures (steps.sends _ (ap (λ x. Effect.Request c.next_request-id.result (Request.Lookup x)) c.text_of.ensures) (steps.told c.pen_of.ensures c.lookup-pen.ensures c.sent.ensures))
