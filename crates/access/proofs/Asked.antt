@@ -1,17 +1,14 @@
 -- What is asked of a buffer, by whether it holds a well-formed state: the states' bytes as the code has them are the definitions'. Assumes nothing.
 use Prim.Native.Nat.{ℕ}
-use mathlib.Core.Path.{◌≡◌, refl, ap}
+use mathlib.Core.Path.{◌≡◌, refl}
 use mathlib.Core.List.{List}
-use mathlib.Core.Option.{Option, none, some, some-injective}
-use mathlib.Core.Bool.{Bool, true, false}
+use mathlib.Core.Option.{Option, none, some}
 use lib.ListN.{length}
-use lib.Dec.{eqb}
 use borrow.Author.Tests.{eq-eqb, ne_eqb}
 use Rattle.model.specs.State.{SyncState, new}
 use Rattle.model.specs.Limits.{document01}
 use Rattle.model.specs.Maps.{if◌then◌else◌}
 use Rattle.model.specs.Machine.{match◌none:◌some:◌}
-use Rattle.model.specs.Layout.{state_layout}
 use Rattle.model.specs.Entry.{read_state}
 use Rattle.model.proofs.StaysWellFormed.{fresh_well_formed}
 use Rattle.state.specs.Layout.{layout}

@@ -13,7 +13,7 @@ use Rattle.model.specs.Calls.{Rejection}
 use Rattle.model.specs.State.{Queue}
 use Rattle.model.specs.Maps.{if◌then◌else◌, by_name, get, is_some, is_some_and, first}
 use Rattle.model.specs.Formats.{event_f, outcome_f}
-use Rattle.model.specs.Machine.{Machine, ok, ◌>>=◌, match◌none:◌some:◌, queue_of}
+use Rattle.model.specs.Machine.{Machine, ok, ◌>>=◌, queue_of}
 use Rattle.model.specs.Sync.{creates_under_key, head, looks_up, doubtful, doubt, learn, observe, read_for_edit, finish, finish_queue, describe, ReadAnswer, answer, answer_failed, read_again, edit_read_found, edit_read_answered, on_edit_read}
 use Rattle.frame.specs.Read.{Means}
 use Rattle.frame.specs.Meaning.{event_at, option_event_at, meant_failure, meant_outcome}

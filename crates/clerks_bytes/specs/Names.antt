@@ -1,5 +1,5 @@
 -- The bytes that name a party for each unit: what the code writes, by the bytes of the roles and of the lists. Assumes nothing.
-use Rattle.std.specs.Prelude.{ℕ, zero, suc, ◌-◌, List, [], ◌∷◌, ◌++◌, Bool, true, cond, not, ◌&&◌, ◌||◌, length, drop, replicate}
+use Rattle.std.specs.Prelude.{ℕ, zero, suc, ◌-◌, List, [], ◌∷◌, ◌++◌, Bool, cond, not, ◌&&◌, ◌||◌, length, drop, replicate}
 use Rattle.attendees.specs.Entries.{entry_count, entry_bytes, address_of, own_of}
 use Rattle.merge.specs.Parts.{owner_of, writer_of}
 use Rattle.clerks_model.specs.Units.{fields_before, fields_behind}

@@ -1,5 +1,5 @@
 -- What the tool answers to a frame: a refusal's number, or a line of bytes for each order of the writes. Assumes nothing.
-use Rattle.std.specs.Prelude.{ℕ, List, ◌++◌, Bool, not, ◌&&◌}
+use Rattle.std.specs.Prelude.{ℕ, ◌++◌, Bool, not, ◌&&◌}
 use Rattle.std.proofs.Math.Option.{Option, none, some}
 use Rattle.format.specs.Format.{whole_of}
 use Rattle.model.specs.Maps.{if◌then◌else◌, map}

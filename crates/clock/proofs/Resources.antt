@@ -1,9 +1,9 @@
 -- A loop over the resources that have a queue. Assumes nothing.
-use Prim.Native.Nat.{ℕ, zero, ◌+◌, ◌-◌, ◌*◌, ◌≤◌, ◌<◌}
+use Prim.Native.Nat.{ℕ, ◌+◌, ◌-◌, ◌*◌, ◌≤◌, ◌<◌}
 use native.Mathlib.Omega.{arith}
 use mathlib.Core.Path.{◌≡◌, sym, ap, ◌∙◌, subst}
-use mathlib.Core.List.{List, [], ◌++◌}
-use lib.ListN.{length, take, get_or, length-append, length-replicate}
+use mathlib.Core.List.{List, []}
+use lib.ListN.{length, take, get_or, length-append}
 use Rattle.format.specs.Format.{All}
 use Rattle.spans.specs.Bytes.{zeros}
 use Rattle.tables.specs.Table.{flat}

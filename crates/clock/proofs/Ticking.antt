@@ -1,13 +1,13 @@
 -- One queue at a tick, and all of them. Assumes nothing.
 use Prim.Native.Nat.{ℕ}
 use mathlib.Core.Path.{◌≡◌, refl, sym, ap, ap₂, ◌∙◌, subst}
-use mathlib.Core.List.{List, [], ◌∷◌, ◌++◌}
+use mathlib.Core.List.{List, [], ◌∷◌}
 use mathlib.Core.Option.{some}
 use mathlib.Core.Bool.{Bool, true, false, not, ◌&&◌, false≢true}
-use lib.ListN.{take, drop}
+use lib.ListN.{drop}
 use Rattle.model.specs.Seam.{ResourceId}
 use Rattle.model.specs.Edits.{Timestamp}
-use Rattle.model.specs.State.{Map, Pending, Queue, Purpose, SyncState}
+use Rattle.model.specs.State.{Pending, Queue, Purpose, SyncState}
 use Rattle.model.specs.Maps.{if◌then◌else◌, any, filter, retain, is_some_and, values}
 use Rattle.model.specs.Formats.{same}
 use Rattle.model.specs.SavedForm.{purpose_f}
@@ -17,7 +17,7 @@ use Rattle.model.proofs.Fitting.{any_same, filter_same}
 use Rattle.state.specs.Setters.{with_in_flight, with_now}
 use Rattle.state.specs.Contract.{Keeps, HasState, Reads, Edits}
 use Rattle.state.proofs.Bridge as bridge
-use Rattle.waiting.specs.Queues.{queue, queue_in, put_queue, nth}
+use Rattle.waiting.specs.Queues.{queue, put_queue, nth}
 use Rattle.waiting.proofs.Bridge.{queue_is, set_queue_is}
 use Rattle.queues.proofs.Starts.{reads_any}
 use Rattle.machine.specs.declared.Progress.{Progress}

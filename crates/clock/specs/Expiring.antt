@@ -1,8 +1,8 @@
 -- One queue as time passes: which entries are told, and which are left. Assumes nothing.
-use Rattle.std.specs.Prelude.{ℕ, List, ◌++◌, Bool, not, ◌&&◌, take, drop}
+use Rattle.std.specs.Prelude.{ℕ, ◌++◌, Bool, not, ◌&&◌, take, drop}
 use Rattle.model.specs.Seam.{ResourceId}
 use Rattle.model.specs.Edits.{Timestamp}
-use Rattle.model.specs.State.{Pending, Queue, SyncState}
+use Rattle.model.specs.State.{Queue, SyncState}
 use Rattle.model.specs.Maps.{if◌then◌else◌, any, is_some_and, keys, values}
 use Rattle.model.specs.Machine.{Machine, Run, for_each}
 use Rattle.model.specs.Sync.{due, edit_writes, tell_expired, due_entries, kept_entries, tick_resource}

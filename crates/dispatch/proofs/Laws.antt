@@ -2,22 +2,22 @@
 use Prim.Native.Nat.{ℕ}
 use mathlib.Core.Path.{◌≡◌, refl, sym, ap, ◌∙◌, subst}
 use mathlib.Core.List.{List}
-use mathlib.Core.Option.{Option, none, some}
+use mathlib.Core.Option.{Option}
 use mathlib.Core.Bool.{Bool, true, false}
-use lib.IntN.{ℤ, pos, negsuc}
+use lib.IntN.{ℤ}
 use mir.Syntax.{w64}
 use mir.Val.{of_z, to_z}
 use mir.Facts.{to_z-of_z}
-use Rattle.format.specs.Format.{◌⊗◌, via, enum, ◌∣◌, nothing, stamp, is_time}
+use Rattle.format.specs.Format.{◌⊗◌, via, enum, ◌∣◌, stamp}
 use Rattle.format.proofs.FormatLaws.{time_fits}
 use Rattle.model.specs.Event.{Text}
 use Rattle.model.specs.Seam.{RequestId}
 use Rattle.model.specs.Seam as seam
 use Rattle.model.specs.Calls as calls
 use Rattle.model.specs.State.{SyncState, Purpose, with_in_flight}
-use Rattle.model.specs.Maps.{if◌then◌else◌, by_number, get, remove, is_some}
+use Rattle.model.specs.Maps.{by_number, get, remove, is_some}
 use Rattle.model.specs.Formats.{input_f, edit_f, outcome_f}
-use Rattle.model.specs.Machine.{Machine, Run, ok, ◌>>=◌, match◌none:◌some:◌, with_state, set_in_flight}
+use Rattle.model.specs.Machine.{Machine, Run, ok, match◌none:◌some:◌, with_state, set_in_flight}
 use Rattle.model.specs.Sync.{start_pass, enqueue, on_list, on_pass_read, on_edit_read, on_edit_write, on_refresh, try_commit, tick, resume, forget_settled, forget_aliases, on_outcome, known_outcome, handle, apply}
 use Rattle.frame.specs.declared.Edit.{Edit}
 use Rattle.frame.specs.declared.Outcome.{Outcome}

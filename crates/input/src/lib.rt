@@ -47,7 +47,7 @@ pub fn take_part(chunk: &[u8], line: &mut [u8], at: usize, end: usize, have: usi
 }
 
 // Reads once, and says how many bytes came: 0 where the input has ended, and where it cannot be read.
-pub fn read_some(stdin: Stdin, chunk: &mut [u8]) -> usize
+fn read_some(stdin: Stdin, chunk: &mut [u8]) -> usize
     ensures { result ≤ length chunk.new }
 {
     let mut from = stdin;

@@ -1,10 +1,10 @@
 -- The regions of a state that fits, one after the other, are the model's bytes of it. Assumes nothing.
-use Prim.Native.Nat.{ℕ, zero, suc, ◌+◌, ◌-◌, ◌*◌, ◌^◌, ◌≤◌, ◌<◌}
+use Prim.Native.Nat.{ℕ, suc, ◌+◌, ◌-◌, ◌*◌}
 use native.Mathlib.Omega.{arith}
-use mathlib.Core.Path.{◌≡◌, refl, sym, ap, ap₂, ◌∙◌, subst}
+use mathlib.Core.Path.{◌≡◌, refl, sym, ap, ap₂, ◌∙◌}
 use mathlib.Core.List.{List, [], ◌∷◌, ◌++◌, append_assoc, append-nil}
 use mathlib.Core.Option.{Option, none, some}
-use mathlib.Core.Bool.{Bool, true, false}
+use mathlib.Core.Bool.{Bool}
 use lib.ListN.{length, length-append, replicate-append-replicate}
 use Rattle.format.specs.Format.{Format, All, concat_map, ◌⊗◌, via, enum, nothing, ◌∣◌, option, bool, below, number, list, such, stamp}
 use Rattle.format.specs.Format as format
@@ -12,11 +12,11 @@ use Rattle.format.proofs.SizeLaws.{bool_within}
 use Rattle.spans.specs.Bytes.{zeros}
 use Rattle.tables.specs.Table.{Table, flat, enc_table, Lens}
 use Rattle.tables.proofs.Laws as tables
-use Rattle.model.specs.Seam.{ResourceId, ListFrom}
+use Rattle.model.specs.Seam.{ResourceId}
 use Rattle.model.specs.State.{Map, Pass, Pending, Queue, SyncState}
 use Rattle.model.specs.Limits.{Limits, max_id, max_text, max_attendees, max_conflict_bytes, max_refused_bytes}
 use Rattle.model.specs.Maps.{map, is_some}
-use Rattle.model.specs.Formats.{resource_id, short_text, u64, event_f, list_from_f, operation_f, role_f, conflicts_f, refusals_f}
+use Rattle.model.specs.Formats.{short_text, u64, event_f, list_from_f}
 use Rattle.model.specs.SavedForm.{staged_f, purpose_f}
 use Rattle.model.specs.Sizes.{id_bytes, text_bytes, organizer_bytes, attendee_bytes, fields_bytes, event_bytes, operation_bytes, option_bytes, time_bytes, edit_bytes, purpose_bytes, absorbed_bytes, entry_bytes, staged_bytes, pass_bytes}
 use Rattle.model.specs.Layout.{table, name_key_layout, number_key_layout, pass_layout, entry_layout, entries_of, queues_layout, parts_layout, state_layout}

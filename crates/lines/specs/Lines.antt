@@ -1,5 +1,5 @@
 -- Lines of hexadecimal digits: the frame that a line holds, and the digits of bytes. A line is given without its line feed. Assumes nothing.
-use Rattle.std.specs.Prelude.{ℕ, suc, ◌+◌, ◌*◌, ◌-◌, ◌/◌, ◌%◌, ◌≡◌, Bool, cond, ◌&&◌, List, [], ◌∷◌, ◌++◌, length, take, drop, leb, ltb, eqb}
+use Rattle.std.specs.Prelude.{ℕ, suc, ◌+◌, ◌*◌, ◌-◌, ◌/◌, ◌%◌, ◌≡◌, cond, ◌&&◌, List, [], ◌∷◌, ◌++◌, length, take, drop, leb, ltb, eqb}
 use Rattle.std.proofs.Math.Option.{Option, none, some}
 
 -- the digit of a number below 16: 0 to 9, a to f

@@ -1,17 +1,15 @@
 -- Sequencing: what a function does, from what the functions that it calls do. Each law is for one line of a `do` block of the
 -- definitions. Assumes nothing.
 use Prim.Native.Nat.{ℕ}
-use native.Mathlib.Omega.{arith}
-use mathlib.Core.Path.{◌≡◌, refl, sym, ap, ◌∙◌, subst}
+use mathlib.Core.Path.{◌≡◌, refl, sym, ◌∙◌, subst}
 use mathlib.Core.List.{List}
 use mathlib.Core.Bool.{Bool, true, false}
-use Rattle.model.specs.Calls.{Effect}
 use Rattle.model.specs.State.{SyncState}
 use Rattle.model.specs.Maps.{if◌then◌else◌}
-use Rattle.model.specs.Machine.{Machine, Run, refused, ok, ◌>>=◌, with_state, push}
-use Rattle.state.specs.Contract.{Keeps, HasState, Reads, Edits, Tries}
+use Rattle.model.specs.Machine.{Machine, Run, refused, ok, ◌>>=◌, with_state}
+use Rattle.state.specs.Contract.{HasState, Reads, Edits}
 use Rattle.machine.specs.declared.Progress.{Progress}
-use Rattle.machine.specs.Contract.{Holds, Ran, Does, Changes, Pushes}
+use Rattle.machine.specs.Contract.{Holds, Ran, Does}
 
 pub bind_ok : (r : Run) → (r >>= ok) ≡ r
 unfolding ◌>>=◌

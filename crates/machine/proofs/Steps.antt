@@ -1,16 +1,15 @@
 -- Effects and inserts: what one of them does to the machine. Assumes nothing.
-use Prim.Native.Nat.{ℕ, zero, suc, ◌+◌, ◌-◌, ◌^◌, ◌≤◌, ◌<◌}
+use Prim.Native.Nat.{ℕ, ◌+◌, ◌-◌, ◌^◌, ◌≤◌, ◌<◌}
 use native.Mathlib.Omega.{arith}
 use mathlib.Core.Path.{◌≡◌, refl, sym, ap, ◌∙◌, subst}
 use mathlib.Core.List.{List}
 use mathlib.Core.Option.{Option, none, some}
-use mathlib.Core.Bool.{Bool, true, false, cond, ◌||◌, false≢true, true≢false}
+use mathlib.Core.Bool.{Bool, true, false, cond, ◌||◌}
 use lib.ListN.{length, take, drop}
 use lib.Dec.{leb, ltb, eqb}
 use borrow.Author.Tests.{eq-eqb, ne_eqb, lt-ltb, le-ltb}
 use Rattle.format.specs.Format.{text as textFormat}
 use Rattle.tables.specs.Table.{text}
-use Rattle.model.specs.Event.{Text}
 use Rattle.model.specs.Seam
 use Rattle.model.specs.Seam.{ResourceId}
 use Rattle.model.specs.Calls.{Effect}
@@ -21,7 +20,7 @@ use Rattle.model.specs.Machine.{Machine, Run, refused, ok, ◌>>=◌, with_state
 use Rattle.model.specs.Sync.{learn}
 use Rattle.pens.specs.declared.Pen.{Pen}
 use Rattle.effects.specs.Told.{Told}
-use Rattle.effects.specs.Sent.{Sent, pen}
+use Rattle.effects.specs.Sent.{pen}
 use Rattle.effects.proofs.Pushed.{pushed, refuses, sent_more}
 use Rattle.state.specs.Values.{Named}
 use Rattle.state.specs.Contract.{Keeps, HasState, Reads, Edits, Tries}

@@ -1,9 +1,9 @@
 -- The shape of every contract of the state machine: what the work buffer and the output hold while a step runs, and what a function does
 -- to them. A function is handed how far the step has come, and hands back how far it came. Once a step is refused it stays refused,
 -- and the functions that are still called do nothing that counts. Assumes nothing.
-use Rattle.std.specs.Prelude.{ℕ, ◌≡◌, List, Bool, true, false, length}
+use Rattle.std.specs.Prelude.{ℕ, ◌≡◌, List}
 use Rattle.model.specs.Calls.{Effect}
-use Rattle.model.specs.Limits.{document01, max_effects}
+use Rattle.model.specs.Limits.{document01}
 use Rattle.model.specs.Machine.{Machine, Run, refused, ok, push}
 use Rattle.state.specs.Contract.{Keeps, HasState}
 use Rattle.effects.specs.Sent.{Sent}

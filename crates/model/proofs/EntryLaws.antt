@@ -1,15 +1,14 @@
 -- The entry over the lent bytes: which bytes are a state, demand 1, and that a list of calls of the entry is a list of calls of the
 -- engine. Assumes nothing.
-use Prim.Native.Nat.{ℕ}
 use native.Mathlib.Omega.{arith}
-use mathlib.Core.Path.{◌≡◌, refl, sym, ap, ◌∙◌, subst}
+use mathlib.Core.Path.{◌≡◌, refl, ap, ◌∙◌}
 use mathlib.Core.List.{List, [], ◌∷◌}
 use mathlib.Core.Option.{Option, none, some}
 use mathlib.Core.Bool.{Bool, true, false}
 use mathlib.Core.Logic.{◌↔◌}
 use Rattle.format.specs.Format.{via, enum, whole_of}
 use Rattle.format.proofs.WholeLaws.{whole}
-use Rattle.model.specs.Calls.{Input, Effect}
+use Rattle.model.specs.Calls.{Input}
 use Rattle.model.specs.State.{SyncState}
 use Rattle.model.specs.Limits.{Limits}
 use Rattle.model.specs.Maps.{if◌then◌else◌}
@@ -19,7 +18,7 @@ use Rattle.model.specs.Sync.{Stepped}
 use Rattle.model.specs.WellFormed.{WellFormed}
 use Rattle.model.specs.Layout.{state_layout}
 use Rattle.model.specs.Entry.{Lent, Returned, WellFormedBytes, lengths_right, read_state, decode, step_frame, step_bytes, leaves, answered, entry}
-use Rattle.model.specs.Demands.{Call, lend, call, state_after, after_calls, answer_of, bytes_after_calls, Demand1, EveryCall, SameCalls, EntryCalls}
+use Rattle.model.specs.Demands.{Call, lend, call, state_after, after_calls, answer_of, bytes_after_calls, EveryCall, EntryCalls}
 use Rattle.model.proofs.Bytes.{accepted}
 use Rattle.model.proofs.LayoutLaws.{state_bytes_law, state_there, state_back}
 use Rattle.model.proofs.StaysWellFormed.{stays_well_formed, step_well_formed}

@@ -1,18 +1,18 @@
 -- The state's bytes of Layout.antt are lawful, allow exactly the well-formed states, and have one length. Assumes nothing.
-use Prim.Native.Nat.{ℕ, zero, suc, ◌+◌, ◌*◌, ◌≤◌, ◌<◌}
+use Prim.Native.Nat.{ℕ, ◌+◌, ◌*◌, ◌≤◌}
 use native.Mathlib.Omega.{arith}
-use mathlib.Core.Path.{◌≡◌, refl, sym, ap, ap₂, ◌∙◌, subst}
+use mathlib.Core.Path.{◌≡◌, refl, sym, ap, ◌∙◌, subst}
 use mathlib.Core.List.{List, [], ◌∷◌, ◌++◌}
 use mathlib.Core.Option.{Option, none, some}
-use mathlib.Core.Bool.{Bool, true, false, not, ◌&&◌}
+use mathlib.Core.Bool.{Bool, true, false, not}
 use lib.ListN.{length, length-append}
-use lib.Dec.{T, leb, eqb, eqb→eq, lit<}
+use lib.Dec.{T, eqb, eqb→eq, lit<}
 use borrow.Author.Tests.{leb-true}
-use Rattle.format.specs.Format.{Got, Format, Lawful, All, map_got, nothing, ◌⊗◌, via, enum, ◌∣◌, no_case, option, bool, below, number, list, such, padded, stamp}
+use Rattle.format.specs.Format.{Format, Lawful, All, map_got, nothing, ◌⊗◌, via, enum, ◌∣◌, option, bool, below, list, such, padded, stamp}
 use Rattle.format.proofs.FormatLaws.{map_inv, pair_law, via_law, option_law, bool_law, below_law, list_law, such_law, padded_law, stamp_law, T_true}
-use Rattle.format.proofs.SizeLaws.{Within, Exactly, exactly_within, within_more, padded_exactly, pair_exactly, via_exactly, such_exactly, below_exactly, bool_exactly, number_exactly, list_within, option_within}
-use Rattle.model.specs.Seam.{RequestId, ResourceId}
-use Rattle.model.specs.State.{Map, Pass, Pending, Queue, SyncState}
+use Rattle.format.proofs.SizeLaws.{Within, Exactly, exactly_within, padded_exactly, pair_exactly, via_exactly, such_exactly, below_exactly, bool_exactly, number_exactly, list_within, option_within}
+use Rattle.model.specs.Seam.{ResourceId}
+use Rattle.model.specs.State.{Map, Pending, Queue, SyncState}
 use Rattle.model.specs.Limits.{Limits, max_conflict_bytes, max_refused_bytes}
 use Rattle.model.specs.Maps.{if◌then◌else◌, by, by_name, same_text, is_empty, map, keys, values}
 use Rattle.model.specs.Machine.{sum}

@@ -9,7 +9,6 @@ use mathlib.Core.Bool.{Bool, true, false}
 use lib.Dec.{leb}
 use lib.ListN.{length}
 use Rattle.model.specs.Event.{NormalizedEvent, ProviderEvent}
-use Rattle.model.specs.Seam
 use Rattle.model.specs.Seam.{RequestId, ResourceId, Request, Failure, Outcome}
 use Rattle.model.specs.Parts.{Role}
 use Rattle.model.specs.Edits.{Timestamp, Operation, Edit}

@@ -4,7 +4,6 @@
 use Rattle.std.specs.Prelude.{ℕ, ◌+◌, ◌*◌, ◌≡◌, List as Vec, [], ◌∷◌, ◌++◌, Bool, eqb}
 use Rattle.std.proofs.Math.Option.{Option}
 use Rattle.format.specs.Format.{Format, map_got, ◌⊗◌, via, option, bool, below, list, such, padded, stamp}
-use Rattle.model.specs.Event.{Text}
 use Rattle.model.specs.Seam.{RequestId, ResourceId}
 use Rattle.model.specs.Parts.{Role, Conflict, Refused}
 use Rattle.model.specs.Edits.{EditId, Timestamp, Operation}

@@ -1,6 +1,5 @@
 -- The edit ids that wait, and the moves waiting: how many of them wait for one booking, folded ones included. Assumes nothing.
 use Rattle.std.specs.Prelude.{ℕ, List, [], ◌∷◌, ◌++◌, length}
-use Rattle.std.proofs.Math.Option.{none, some}
 use Rattle.model.specs.Seam.{ResourceId}
 use Rattle.model.specs.Edits.{EditId}
 use Rattle.model.specs.State.{Map, Queue, SyncState}

@@ -1,6 +1,5 @@
 -- What is forgotten at the end of a step: `forget_settled` and `forget_aliases` of the state, without the machine around it. Assumes nothing.
 use Rattle.std.specs.Prelude.{ℕ, ◌+◌, ◌≡◌, List, [], ◌∷◌, ◌++◌, Bool, true, false, ◌||◌, ◌⊎◌, length, leb, ltb}
-use Rattle.std.proofs.Math.Option.{none, some}
 use Rattle.model.specs.Seam.{ResourceId, RequestId}
 use Rattle.model.specs.State.{Map, SyncState}
 use Rattle.model.specs.Maps.{if◌then◌else◌, by_name, any, filter, first, get, keys, values, has, is_some, is_some_and}

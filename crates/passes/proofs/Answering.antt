@@ -15,7 +15,6 @@ use Rattle.model.specs.Sync.{answer, answer_failed, is_unread, doubtful, doubt, 
 use Rattle.frame.specs.Read.{kept, read_at, Means}
 use Rattle.frame.specs.Meaning.{option_event_at, page_at, meant_outcome}
 use Rattle.frame.specs.declared.Cursor.{Cursor}
-use Rattle.frame.specs.declared.Failure.TheVariants as failure
 use Rattle.frame.specs.declared.Outcome as outcomes
 use Rattle.frame.specs.declared.Outcome.TheVariants as outcome
 use Rattle.state.specs.Layout.{pass_of}

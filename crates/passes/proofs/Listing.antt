@@ -24,7 +24,6 @@ use Rattle.state.specs.Layout.{padded}
 use Rattle.state.specs.Contract.{Reads, Edits, Tries}
 use Rattle.state.specs.Values.{name_of}
 use Rattle.records.specs.Events.{RecordAt, RecordIs, FindsRecord}
-use Rattle.records.proofs.Laws as records
 use Rattle.versions.specs.Versions.{Stands, VersionOf}
 use Rattle.staged.specs.Staging.{may_stage, with_stage, without_stage}
 use Rattle.machine.specs.declared.Progress.{Progress}

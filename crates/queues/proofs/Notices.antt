@@ -36,7 +36,7 @@ use Rattle.waiting.specs.Entries.{SomeEntryAt, EntryIs, FindsEntry}
 use Rattle.waiting.specs.Reading.{nth_id, ReadsId, ids_number}
 use Rattle.waiting.proofs.Reading.{nth_id_some}
 use Rattle.machine.specs.declared.Progress.{Progress}
-use Rattle.machine.specs.Contract.{Holds, Ran, Does, Changes, Pushes}
+use Rattle.machine.specs.Contract.{Ran, Does, Changes, Pushes}
 use Rattle.machine.specs.Steps.{pen_of, sent_by, reserve}
 use Rattle.machine.proofs.Runs as runs
 use Rattle.machine.proofs.Steps as steps

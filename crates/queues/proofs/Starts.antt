@@ -19,7 +19,7 @@ use Rattle.model.specs.Formats.{enc_effects}
 use Rattle.model.specs.State.{Pending, Queue, SyncState, Purpose}
 use Rattle.model.specs.Maps.{if◌then◌else◌, is_some_and, by_name, keys}
 use Rattle.model.specs.Machine.{Machine, Run, refused, ok, ◌>>=◌, for_each, match◌none:◌some:◌, tell, push, request, with_state, queue_of, set_queue}
-use Rattle.model.specs.Sync.{assigns_ids, is_attendee, creates_under_key, head, ids_of, ending, notify, read_for_edit, start_head, start_edit, finish_queue, finish}
+use Rattle.model.specs.Sync.{assigns_ids, is_attendee, creates_under_key, ids_of, ending, notify, read_for_edit, start_head, start_edit, finish_queue, finish}
 use Rattle.model.specs.WellFormed.{rising}
 use Rattle.model.proofs.Holds as model
 use Rattle.model.proofs.InFlight.{notify_state, found_set}

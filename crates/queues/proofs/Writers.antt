@@ -1,5 +1,5 @@
 -- Expiry, and the parts of an edit as they are written into a buffer. Assumes nothing.
-use Prim.Native.Nat.{ℕ, suc, ◌+◌, ◌-◌, ◌^◌, ◌≤◌, ◌<◌, Ordering}
+use Prim.Native.Nat.{ℕ, suc, ◌-◌, ◌^◌, ◌≤◌, ◌<◌, Ordering}
 use native.Mathlib.Omega.{arith}
 use mathlib.Core.Path.{◌≡◌, refl, sym, ap, ap₂, ◌∙◌, subst}
 use mathlib.Core.List.{List, [], ◌∷◌, ◌++◌}
@@ -16,7 +16,7 @@ use mir.Val.{of_z, to_z, Fits, SFits}
 use mir.Facts.{to_z-of_z}
 use Rattle.format.specs.Format.{Format, Lawful, Got, option, stamp, is_time, text, enum, ◌∣◌, via, nothing, big_endian, ◌⊗◌}
 use Rattle.format.proofs.FormatLaws.{time_fits}
-use Rattle.model.specs.Event.{Text, ProviderEvent, NormalizedEvent}
+use Rattle.model.specs.Event.{Text, NormalizedEvent}
 use Rattle.model.specs.Parts as parts
 use Rattle.model.specs.Edits as edits
 use Rattle.model.specs.Formats.{short_text, role_f, operation_f, fields_f, event_f}

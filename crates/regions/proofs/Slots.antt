@@ -10,7 +10,6 @@ use lib.ListN.{length, take, drop, get_or}
 use Rattle.tables.specs.Table.{chunks, slots_of, Holds, WellFormed}
 use Rattle.tables.proofs.Laws as tables
 use Rattle.lent.specs.Lent.{part}
-use Rattle.lent.proofs.Laws as lent
 use Rattle.model.specs.Formats.{resource_id, u64}
 use Rattle.model.specs.SavedForm.{purpose_f}
 use Rattle.regions.specs.Tests.{filled, is_field, is_named, is_flight, is_slot, stride, key_width, every_slot}

@@ -14,7 +14,7 @@ use Rattle.model.specs.Limits.{Limits, document01}
 use Rattle.model.specs.Maps.{if◌then◌else◌, map, keys, is_some}
 use Rattle.model.specs.Formats.{resource_id}
 use Rattle.model.specs.State.{Map, Pass, Queue, Purpose, SyncState, with_in_flight}
-use Rattle.model.specs.Machine.{Machine, Run, ok, ◌>>=◌, for_each, match◌none:◌some:◌, request, in_pass, with_state, set_in_flight, set_queue}
+use Rattle.model.specs.Machine.{Machine, ok, ◌>>=◌, for_each, match◌none:◌some:◌, request, in_pass, with_state, set_in_flight, set_queue}
 use Rattle.model.specs.Sync.{doubt, change_front, change_head, without_plan, start_edit, restart_edit, read_unread, resume_pass, resume}
 use Rattle.model.proofs.Fitting.{length-map}
 use Rattle.state.specs.Layout.{name_slot, pending_slot, edit_slots, pass_of}

@@ -1,7 +1,7 @@
 -- The bytes of a sender in a lent buffer, and what a use answers and leaves there, for all bytes. A lane is a count byte, its numbers and zeros; so are the
 -- calls out; the turn is a byte. Assumes nothing.
 use Rattle.std.specs.Prelude.{ℕ, ◌+◌, ◌*◌, ◌≡◌, List, [], Bool, length, leb, eqb}
-use Rattle.std.proofs.Math.Option.{Option, none, some}
+use Rattle.std.proofs.Math.Option.{Option}
 use Rattle.format.specs.Format.{Format, All, concat_map, repeated, ◌⊗◌, via, below, such, whole_of}
 use Rattle.model.specs.Maps.{if◌then◌else◌, is_empty}
 use Rattle.model.specs.Machine.{match◌none:◌some:◌}

@@ -1,6 +1,6 @@
 -- The struct that bytes stand for, whatever they are, and the bytes of a struct; and what the functions promise. Assumes nothing.
 use Rattle.std.specs.Prelude.{ℕ, zero, suc, ◌+◌, ◌*◌, ◌≡◌, List, [], ◌∷◌, ◌++◌, length, take, drop, get_or, eqb}
-use Rattle.std.proofs.Math.Option.{none, some}
+use Rattle.std.proofs.Math.Option.{some}
 use Rattle.format.specs.Format.{concat_map}
 use Rattle.model.specs.Maps.{if◌then◌else◌}
 use Rattle.model.specs.Machine.{match◌none:◌some:◌}

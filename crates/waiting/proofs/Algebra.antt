@@ -1,15 +1,15 @@
 -- One queue put after another: the laws that sequences of edits of the queues come down to. Assumes nothing.
 use Prim.Native.Nat.{◌<◌, Ordering}
 use native.Mathlib.Omega.{arith}
-use mathlib.Core.Path.{◌≡◌, refl, sym, ap, ap₂, ◌∙◌, subst}
-use mathlib.Core.List.{List, [], ◌∷◌}
+use mathlib.Core.Path.{◌≡◌, refl, sym, ap, ap₂, subst}
+use mathlib.Core.List.{[], ◌∷◌}
 use mathlib.Core.Option.{Option, none, some, some-injective, none-ne-some}
 use mathlib.Core.Bool.{true, false}
 use lib.ListN.{length}
 use lib.Dec.{T}
 use Rattle.format.specs.Format.{All}
 use Rattle.model.specs.Seam.{ResourceId}
-use Rattle.model.specs.State.{Map, Pending, Queue, SyncState}
+use Rattle.model.specs.State.{Map, Queue, SyncState}
 use Rattle.model.specs.Limits.{document01}
 use Rattle.model.specs.Maps.{by, by_name, get, insert, remove, map, keys}
 use Rattle.model.specs.Machine.{match◌none:◌some:◌}

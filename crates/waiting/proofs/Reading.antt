@@ -8,7 +8,7 @@ use mathlib.Core.Option.{Option, none, some, some-injective, none-ne-some}
 use mathlib.Core.Bool.{Bool, true, false}
 use lib.ListN.{length, take, drop, get_or, length-append, length-drop, take-append-drop}
 use lib.Seq.{get_or-take, get_or-drop, take_at, drop_at, take_all, drop-drop}
-use lib.IntN.{ℤ, pos, negsuc}
+use lib.IntN.{ℤ}
 use lib.Signed.{le_z}
 use lib.Dec.{eqb}
 use mir.Syntax.{w64}

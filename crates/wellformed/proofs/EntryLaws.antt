@@ -4,8 +4,7 @@ use native.Mathlib.Nat.{mul-le-mul_right}
 use native.Mathlib.Omega.{arith}
 use mathlib.Core.Path.{◌≡◌, refl, sym, ap, ap₂, ◌∙◌, subst}
 use mathlib.Core.List.{List, [], ◌∷◌, ◌++◌, append-nil}
-use mathlib.Core.Option.{some}
-use mathlib.Core.Bool.{Bool, true, false, not}
+use mathlib.Core.Bool.{Bool, true, false}
 use lib.ListN.{length, get_or, length-append}
 use lib.Dec.{T, compare_is_eq}
 use Rattle.format.specs.Format.{Format, Lawful, All, ◌⊗◌, option, list, stamp, bool, concat_map}
@@ -26,7 +25,7 @@ use Rattle.model.specs.WellFormed.{rising}
 use Rattle.model.proofs.FormatsLaws.{resource_id_law, short_text_law, operation_f_law, role_f_law, conflicts_f_law, refusals_f_law}
 use Rattle.model.proofs.Tables.{turned, by_name_self, by_name_turned, is_lt, and_left, and_right, and_both, same_is}
 use Rattle.model.proofs.Fitting.{length-map}
-use Rattle.state.specs.Layout.{padded, field, pending_slot, edit_slots, region}
+use Rattle.state.specs.Layout.{padded, field, pending_slot, edit_slots}
 use Rattle.state.specs.Fits.{PendingFits, QueueFits}
 use Rattle.state.proofs.Widths.{name_within, text_33, operation_within, role_within, time_within, absorbed_within}
 use Rattle.state.proofs.Padded.{length_padded, text_name}

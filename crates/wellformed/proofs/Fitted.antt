@@ -7,7 +7,7 @@ use mathlib.Core.Option.{Option, none, some}
 use mathlib.Core.Bool.{not}
 use lib.ListN.{length, length-append}
 use lib.Dec.{T, leb, le→leb}
-use Rattle.format.specs.Format.{All, option, via, ◌⊗◌, enum, ◌∣◌, nothing, list, number, below}
+use Rattle.format.specs.Format.{All, option, via, ◌⊗◌, enum, ◌∣◌, nothing, list, number}
 use Rattle.model.specs.Seam.{ResourceId}
 use Rattle.model.specs.State.{Map, Pass, Queue, SyncState}
 use Rattle.model.specs.Limits.{Limits, max_conflict_bytes, max_refused_bytes}

@@ -2,7 +2,6 @@ use Rattle.lent.specs.Lent.{part}
 use Rattle.looks.proofs.Laws.{not-true, not-false, some_queue, no_queue, few_queues, queue_short}
 use Rattle.looks.proofs.Lists.{not_more, going_start, next_room, fewer, going_more, going_end}
 use Rattle.format.specs.Format.{list}
-use lib.ListN.{length}
 use mathlib.Core.Path.{refl}
 use native.Mathlib.Omega.{arith}
 use borrow.Author.Rules.{rules}

@@ -1,4 +1,3 @@
-use Rattle.spans.specs.Bytes.{all_zero}
 use Rattle.tables.proofs.Laws as laws
 use mathlib.Core.Path.{sym, ◌∙◌}
 use native.Mathlib.Omega.{arith}

@@ -1,7 +1,6 @@
 use Rattle.tables.specs.Table.{keeps, against}
 use lib.ListN.{length}
 use Prim.Native.Nat.{ℕ, ◌-◌}
-use mathlib.Core.Bool.{true, false}
 use mathlib.Core.List.{List}
 use mathlib.Core.Path.{sym, ap, ◌∙◌, subst, subst₂}
 use Rattle.tables.proofs.Laws as laws

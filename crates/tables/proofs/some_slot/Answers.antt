@@ -1,5 +1,4 @@
 use Rattle.tables.specs.Table.{slots_of, against, is_equal}
-use mathlib.Core.Bool.{true, false}
 use mathlib.Core.Path.{refl, sym, ap, ◌∙◌}
 use Rattle.tables.proofs.Laws as laws
 use native.Mathlib.Omega.{arith}

@@ -1,4 +1,3 @@
-use mathlib.Core.Bool.{true, false}
 use mathlib.Core.Path.{refl, sym, ◌∙◌}
 use Rattle.tables.proofs.Laws as laws
 use native.Mathlib.Omega.{arith}

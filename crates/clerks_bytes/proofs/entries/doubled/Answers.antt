@@ -1,4 +1,3 @@
-use mathlib.Core.Bool.{false}
 use Rattle.clerks_bytes.proofs.EntryLaws.{twice_zero, twice_found, twice_next, twice_end}
 use borrow.Author.Rules.{rules}
 use Rattle.clerks_bytes.proofs.entries.doubled.Goals as goal

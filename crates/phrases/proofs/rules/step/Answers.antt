@@ -1,5 +1,4 @@
 use mathlib.Core.Path.{◌∙◌}
-use borrow.Author.Rules.{rules}
 use Rattle.phrases.proofs.Steps.{step_span}
 use Rattle.phrases.proofs.rules.step.Goals as goal
 

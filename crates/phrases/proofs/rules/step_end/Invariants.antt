@@ -1,7 +1,6 @@
 use Prim.Native.Nat.{◌+◌, ◌-◌}
 use mathlib.Core.Path.{◌≡◌}
 use lib.ListN.{length}
-use borrow.Author.Rules.{rules}
 use Rattle.phrases.specs.Rules.{step_at}
 use Rattle.phrases.proofs.rules.step_end.Given as goal
 

@@ -1,7 +1,6 @@
 use borrow.Author.Rules.{rules}
 use Rattle.frame.specs.Meaning.{meant_edit}
 use Rattle.state.specs.Values.{name_of}
-use mathlib.Core.Path.{sym}
 use Rattle.queues.proofs.Queueing as queueing
 use Rattle.queues.proofs.enqueuing.enqueue_live.Goals as goal
 

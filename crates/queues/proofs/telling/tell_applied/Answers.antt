@@ -1,6 +1,6 @@
 use borrow.Author.Rules.{rules}
 use Rattle.state.specs.Values.{name_of}
-use mathlib.Core.Path.{◌≡◌, sym}
+use mathlib.Core.Path.{◌≡◌}
 use Rattle.queues.proofs.Parts as parts
 use Rattle.queues.proofs.Heads as heads
 use Rattle.queues.proofs.Notices as notices

@@ -1,6 +1,5 @@
 use Rattle.phrases.proofs.Printed.{plain_as}
 use Rattle.phrases.proofs.Steps.{plain_step}
-use borrow.Author.Rules.{rules}
 use Rattle.words.proofs.walk.phrase.Goals as goal
 
 pub returns : goal.returns

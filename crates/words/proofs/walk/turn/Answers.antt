@@ -1,7 +1,6 @@
 use lib.ListN.{length}
 use Rattle.phrases.proofs.Printed.{plain_as, plain_span}
 use Rattle.phrases.proofs.Steps.{plain_step}
-use borrow.Author.Rules.{rules}
 use Rattle.words.proofs.walk.turn.Goals as goal
 
 pub say-requires : goal.say-requires
