@@ -8,7 +8,7 @@ use Rattle.model.specs.Event.{ProviderEvent}
 use Rattle.model.specs.Seam.{ResourceId}
 use Rattle.model.specs.State.{Queue, SyncState, new}
 use Rattle.model.specs.Limits.{document01}
-use Rattle.model.specs.Maps.{if◌then◌else◌}
+use Rattle.model.specs.Maps.{when◌then◌else◌}
 use Rattle.model.specs.Machine.{match◌none:◌some:◌}
 use Rattle.model.specs.Formats.{event_f}
 use Rattle.model.specs.Layout.{state_layout}
@@ -19,7 +19,7 @@ use Rattle.wellformed.specs.IsState.{IsState}
 -- what a reading function answers: the code, and what is asked of the state, or `missing` where the code is a refusal
 unfoldable pub asked : {A : Type 0} → (SyncState → A) → A → List ℕ → ℕ × A
 asked f missing bytes =
-    if eqb (length bytes) state_length
+    when eqb (length bytes) state_length
     then (match read_state document01 bytes none: (2, missing) some: (λ s. (0, f s)))
     else (1, missing)
 
@@ -28,7 +28,7 @@ pub record Answers {A : Type 0} (f : SyncState → A) (missing : A) (bytes : Lis
 
 -- what making a fresh state answers and leaves: 1, and the buffer as it is, where the length is wrong
 unfoldable pub freshened : List ℕ → ℕ × List ℕ
-freshened bytes = if eqb (length bytes) state_length then (0, (state_layout document01).enc new) else (1, bytes)
+freshened bytes = when eqb (length bytes) state_length then (0, (state_layout document01).enc new) else (1, bytes)
 
 pub record Freshened (before after : List ℕ) (code : ℕ) : Type 0 where
   pub is : (code, after) ≡ freshened before

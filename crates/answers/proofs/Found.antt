@@ -11,7 +11,7 @@ use Rattle.model.specs.Event.{ProviderEvent}
 use Rattle.model.specs.Seam.{ResourceId, RequestId, Failure, Outcome}
 use Rattle.model.specs.Calls.{Rejection}
 use Rattle.model.specs.State.{Queue}
-use Rattle.model.specs.Maps.{if◌then◌else◌, by_name, get, is_some, is_some_and, first}
+use Rattle.model.specs.Maps.{when◌then◌else◌, by_name, get, is_some, is_some_and, first}
 use Rattle.model.specs.Formats.{event_f, outcome_f}
 use Rattle.model.specs.Machine.{Machine, ok, ◌>>=◌, queue_of}
 use Rattle.model.specs.Sync.{creates_under_key, head, looks_up, doubtful, doubt, learn, observe, read_for_edit, finish, finish_queue, describe, ReadAnswer, answer, answer_failed, read_again, edit_read_found, edit_read_answered, on_edit_read}
@@ -40,12 +40,12 @@ use Rattle.answers.proofs.Writes.{some_first, none_first}
 
 module _ (r : ResourceId) {w o w' o' : List ℕ} {p q : Progress} {n : ℕ} (N : Reads (λ s. length (queue r s)) w n) where
   pub again : (n ≡ 0 → ⊥) → Does (read_for_edit r) w o p q w' o' → Does (read_or_doubt r) w o p q w' o'
-  unfolding read_or_doubt if◌then◌else◌
+  unfolding read_or_doubt when◌then◌else◌
   again z d = runs.is_held {f = read_for_edit r} (read_or_doubt r)
       (λ m h. let y : is_some (head r m) ≡ true = ap is_some (bridge.head_is r m) ∙ some_first (queue r m.state) n (N.is m.state h.keeps) z in sym (rw y)) d
 
   pub doubts : n ≡ 0 → Does (doubt r) w o p q w' o' → Does (read_or_doubt r) w o p q w' o'
-  unfolding read_or_doubt if◌then◌else◌
+  unfolding read_or_doubt when◌then◌else◌
   doubts z d = runs.is_held {f = doubt r} (read_or_doubt r)
       (λ m h. let y : is_some (head r m) ≡ false = ap is_some (bridge.head_is r m) ∙ none_first (queue r m.state) n (N.is m.state h.keeps) z in sym (rw y)) d
 
@@ -57,11 +57,11 @@ module _ (r : ResourceId) {w : List ℕ} {b : Bool} (L : Reads (λ s. is_some_an
   looks_is m h = ap (is_some_and (λ p. creates_under_key p.edit.operation)) (bridge.head_is r m) ∙ sym (L.is m.state h)
 
   pub missing_key : {w' : List ℕ} {p q : Progress} → b ≡ true → Changes (learn r) w p q w' → Changes (observe_missing r) w p q w'
-  unfolding observe_missing if◌then◌else◌
+  unfolding observe_missing when◌then◌else◌
   missing_key e C = record { does = λ o. runs.is_held {f = learn r} (observe_missing r) (λ m h. let y : looks_up r m ≡ true = looks_is m h.keeps ∙ e in sym (rw y)) (C.does o) }
 
   pub missing_gone : {w' : List ℕ} {p q : Progress} → b ≡ false → Changes (observe r none) w p q w' → Changes (observe_missing r) w p q w'
-  unfolding observe_missing if◌then◌else◌
+  unfolding observe_missing when◌then◌else◌
   missing_gone e C = record { does = λ o. runs.is_held {f = observe r none} (observe_missing r) (λ m h. let y : looks_up r m ≡ false = looks_is m h.keeps ∙ e in sym (rw y)) (C.does o) }
 
 -- ---- edit_read_found
@@ -70,15 +70,15 @@ module _ (id : RequestId) (r : ResourceId) {w : List ℕ} {b : Bool} (D : Reads 
   pub overtaken : (theirs : Option ProviderEvent) {o w' o' : List ℕ} {p q : Progress} → b ≡ true → Does (read_or_doubt r) w o p q w' o' → Does (edit_read_found id r theirs) w o p q w' o'
   unfolding edit_read_found doubtful read_or_doubt plan_head
   overtaken theirs e d = runs.is (edit_read_found id r theirs) (λ m. refl)
-      (runs.taken (λ m. (if not (is_some theirs) && looks_up r m then learn r m else observe r theirs m) >>= plan_head r theirs) D e d)
+      (runs.taken (λ m. (when not (is_some theirs) && looks_up r m then learn r m else observe r theirs m) >>= plan_head r theirs) D e d)
 
   pub found_event : (t : ProviderEvent) {o w₁ o₁ w' o' : List ℕ} {p q u : Progress} → b ≡ false → Does (observe r (some t)) w o p q w₁ o₁ → Does (plan_head r (some t)) w₁ o₁ q u w' o' → Does (edit_read_found id r (some t)) w o p u w' o'
-  unfolding edit_read_found doubtful plan_head is_some if◌then◌else◌
-  found_event t e d f = runs.is (edit_read_found id r (some t)) (λ m. refl) (runs.left (λ m. if is_some (head r m) then read_for_edit r m else doubt r m) D e (runs.next d f))
+  unfolding edit_read_found doubtful plan_head is_some when◌then◌else◌
+  found_event t e d f = runs.is (edit_read_found id r (some t)) (λ m. refl) (runs.left (λ m. when is_some (head r m) then read_for_edit r m else doubt r m) D e (runs.next d f))
 
   pub found_none : {o w₁ o₁ w' o' : List ℕ} {p q u : Progress} → b ≡ false → Does (observe_missing r) w o p q w₁ o₁ → Does (plan_head r none) w₁ o₁ q u w' o' → Does (edit_read_found id r none) w o p u w' o'
   unfolding edit_read_found doubtful plan_head observe_missing is_some
-  found_none e d f = runs.is (edit_read_found id r none) (λ m. refl) (runs.left (λ m. if is_some (head r m) then read_for_edit r m else doubt r m) D e (runs.next d f))
+  found_none e d f = runs.is (edit_read_found id r none) (λ m. refl) (runs.left (λ m. when is_some (head r m) then read_for_edit r m else doubt r m) D e (runs.next d f))
 
 module _ (id : RequestId) (r : ResourceId) (s : List ℕ) (at : ℕ) {w o w' o' : List ℕ} {p q : Progress} {next : Cursor} {listed : Listed} (M : Means next (meant_listed s listed) (option event_f) s (record { at = at; ok = true })) (k : (option event_f).Ok (option_event_at s at)) where
   pub at_none : listed ≡ Nothing → Does (edit_read_found id r none) w o p q w' o' → Does (edit_read_found id r (option_event_at s at)) w o p q w' o'
@@ -90,11 +90,11 @@ module _ (id : RequestId) (r : ResourceId) (s : List ℕ) (at : ℕ) {w o w' o' 
 -- ---- on_edit_read
 
 -- where nothing waits, `finish` does nothing
-rejecting : (r : ResourceId) (x : Option Rejection) (m : Machine) → finish r x m ≡ (if is_some (head r m) then finish r x m else ok m)
-unfolding finish head finish_queue first is_some if◌then◌else◌
+rejecting : (r : ResourceId) (x : Option Rejection) (m : Machine) → finish r x m ≡ (when is_some (head r m) then finish r x m else ok m)
+unfolding finish head finish_queue first is_some when◌then◌else◌
 rejecting r x m = go (queue_of r m)
   where
-    go : (l : Queue) → finish_queue r x l m ≡ (if is_some (first l) then finish_queue r x l m else ok m)
+    go : (l : Queue) → finish_queue r x l m ≡ (when is_some (first l) then finish_queue r x l m else ok m)
     go [] = refl
     go (y ∷ l) = refl
 

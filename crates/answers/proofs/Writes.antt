@@ -13,7 +13,7 @@ use Rattle.model.specs.Seam.{ResourceId, RequestId, Failure, Outcome, resource_o
 use Rattle.model.specs.Calls.{Rejection}
 use Rattle.model.specs.Edits.{Operation}
 use Rattle.model.specs.State.{Pending, Queue}
-use Rattle.model.specs.Maps.{if◌then◌else◌, by_name, get, is_some, is_some_and}
+use Rattle.model.specs.Maps.{when◌then◌else◌, by_name, get, is_some, is_some_and}
 use Rattle.model.specs.Formats.{event_f, outcome_f}
 use Rattle.model.specs.Machine.{Machine, ok, ◌>>=◌, with_state, queue_of}
 use Rattle.model.specs.Sync.{is_create, is_delete, as_collided, change_front, change_head, head_is, doubtful, doubt, observe, observe_write, finish, remap, written, deleted, read_for_edit, read_again, write_failed, on_edit_write, describe, describe_failure}
@@ -115,14 +115,14 @@ module _ (r : ResourceId) {w : List ℕ} {c : ℕ} (C : Reads (λ s. operation_c
 module _ (id : RequestId) (r : ResourceId) (e : ProviderEvent) {w o w₁ o₁ w₂ o₂ : List ℕ} {p q t : Progress} {c : ℕ} (C : Reads (λ s. operation_case_of (nth 0 (queue r s))) w c) where
   pub written_new : c ≡ 0 → {w₃ o₃ : List ℕ} {u : Progress} {to : ResourceId} → to ≡ resource_of e → Does (observe_write id to (some e)) w o p q w₁ o₁ → Does (remap r to) w₁ o₁ q t w₂ o₂ → Does (finish r none) w₂ o₂ t u w₃ o₃
       → Does (written id r e) w o p u w₃ o₃
-  unfolding written if◌then◌else◌
+  unfolding written when◌then◌else◌
   written_new z {to = to} k d f g =
       runs.is_held {f = λ m. observe_write id to (some e) m >>= remap r to >>= finish r none} (written id r e)
       (λ m h. let y : head_is is_create r m ≡ true = head_creates r C z m h.keeps in sym (rw (y, ← k)))
       (runs.next (runs.next d f) g)
 
   pub written_old : (c ≡ 0 → ⊥) → Does (observe_write id r (some e)) w o p q w₁ o₁ → Does (finish r none) w₁ o₁ q t w₂ o₂ → Does (written id r e) w o p t w₂ o₂
-  unfolding written if◌then◌else◌
+  unfolding written when◌then◌else◌
   written_old z d g =
       runs.is_held {f = λ m. observe_write id r (some e) m >>= finish r none} (written id r e)
       (λ m h. let y : head_is is_create r m ≡ false = head_keeps r C z m h.keeps in sym (rw y))
@@ -146,11 +146,11 @@ none_first (y ∷ x) n e z = absurd (omega arith)
 
 module _ (r : ResourceId) {w o w' o' : List ℕ} {p q : Progress} {n : ℕ} (N : Reads (λ s. length (queue r s)) w n) where
   pub reads_again : (n ≡ 0 → ⊥) → Does (read_for_edit r) w o p q w' o' → Does (read_again r) w o p q w' o'
-  unfolding read_again if◌then◌else◌
+  unfolding read_again when◌then◌else◌
   reads_again z d = runs.is_held {f = read_for_edit r} (read_again r) (λ m h. sym (rw (ap is_some (bridge.head_is r m) ∙ some_first (queue r m.state) n (N.is m.state h.keeps) z))) d
 
 pub reads_nothing : (r : ResourceId) {w o : List ℕ} {p : Progress} {n : ℕ} → Reads (λ s. length (queue r s)) w n → n ≡ 0 → Does (read_again r) w o p p w o
-unfolding read_again if◌then◌else◌
+unfolding read_again when◌then◌else◌
 reads_nothing r {n = n} N z = runs.is_held {f = ok} (read_again r) (λ m h. sym (rw (ap is_some (bridge.head_is r m) ∙ none_first (queue r m.state) n (N.is m.state h.keeps) z))) runs.nothing
 
 -- ---- write_failed
@@ -158,12 +158,12 @@ reads_nothing r {n = n} N z = runs.is_held {f = ok} (read_again r) (λ m h. sym 
 module _ (id : RequestId) (r : ResourceId) {w o w' o' : List ℕ} {p q : Progress} where
   module _ {c : ℕ} (C : Reads (λ s. operation_case_of (nth 0 (queue r s))) w c) where
     pub gone_deleted : c ≡ 2 → Does (deleted id r) w o p q w' o' → Does (write_failed id r Failure.NotFound) w o p q w' o'
-    unfolding write_failed if◌then◌else◌
+    unfolding write_failed when◌then◌else◌
     gone_deleted z d = runs.is_held {f = deleted id r} (write_failed id r Failure.NotFound)
         (λ m h. let y : head_is is_delete r m ≡ true = head_deletes r C z m h.keeps in sym (rw y)) d
 
     pub gone_again : (c ≡ 2 → ⊥) → Does (read_again r) w o p q w' o' → Does (write_failed id r Failure.NotFound) w o p q w' o'
-    unfolding write_failed if◌then◌else◌
+    unfolding write_failed when◌then◌else◌
     gone_again z d = runs.is_held {f = read_again r} (write_failed id r Failure.NotFound)
         (λ m h. let y : head_is is_delete r m ≡ false = head_stays r C z m h.keeps in sym (rw y)) d
 

@@ -11,7 +11,7 @@ use lib.ListN.{length, get_or}
 use borrow.Author.Tests.{eq-eqb, ne_eqb, lt-ltb, le-ltb, le-leb, lt-leb}
 use Rattle.format.specs.Format.{Got, below, text}
 use Rattle.model.specs.Limits.{max_attendees, max_text}
-use Rattle.model.specs.Maps.{if◌then◌else◌, same_text}
+use Rattle.model.specs.Maps.{when◌then◌else◌, same_text}
 use Rattle.model.specs.Formats.{same, short_text, attendee_f}
 use Rattle.model.specs.Merge.{Verdict, verdict}
 use Rattle.model.proofs.FormatsLaws.{short_text_law}
@@ -50,19 +50,19 @@ one_byte x y = same_cons x y [] [] ∙ rw same_nil (and-true (eqb x y))
 
 module _ (b o t : ℕ) where
   pub byte_base : o ≡ b → Verdict.Theirs ≡ verdict raw (b ∷ []) (o ∷ []) (t ∷ []) true
-  unfolding verdict same if◌then◌else◌
+  unfolding verdict same when◌then◌else◌
   byte_base e = rw (one_byte o b, eq-eqb o b e)
 
   pub byte_theirs : (o ≡ b → ⊥) → o ≡ t → Verdict.Theirs ≡ verdict raw (b ∷ []) (o ∷ []) (t ∷ []) true
-  unfolding verdict same if◌then◌else◌
+  unfolding verdict same when◌then◌else◌
   byte_theirs e f = rw (one_byte o b, one_byte o t, ne_eqb o b e, eq-eqb o t f)
 
   pub byte_ours : (o ≡ b → ⊥) → (o ≡ t → ⊥) → t ≡ b → Verdict.Ours ≡ verdict raw (b ∷ []) (o ∷ []) (t ∷ []) true
-  unfolding verdict same if◌then◌else◌
+  unfolding verdict same when◌then◌else◌
   byte_ours e f g = rw (one_byte o b, one_byte o t, one_byte t b, ne_eqb o b e, ne_eqb o t f, eq-eqb t b g)
 
   pub byte_conflict : (o ≡ b → ⊥) → (o ≡ t → ⊥) → (t ≡ b → ⊥) → Verdict.Conflict ≡ verdict raw (b ∷ []) (o ∷ []) (t ∷ []) true
-  unfolding verdict same if◌then◌else◌
+  unfolding verdict same when◌then◌else◌
   byte_conflict e f g = rw (one_byte o b, one_byte o t, one_byte t b, ne_eqb o b e, ne_eqb o t f, ne_eqb t b g)
 
 pub count_is : (s : List ℕ) (n : ℕ) → n ≡ value_at (below (suc 8)) 0 s start → n ≡ entry_count s

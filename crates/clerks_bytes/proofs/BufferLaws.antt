@@ -9,7 +9,7 @@ use lib.Dec.{eqb}
 use borrow.Author.Tests.{eq-eqb, ne_eqb, eqb-true, not-true, not-false}
 use Rattle.spans.specs.Bytes.{zeros}
 use Rattle.model.specs.Limits.{max_id, max_text, max_attendees}
-use Rattle.model.specs.Maps.{if◌then◌else◌}
+use Rattle.model.specs.Maps.{when◌then◌else◌}
 use Rattle.model.specs.Sizes.{id_bytes, text_bytes, organizer_bytes, attendee_bytes, fields_bytes, event_bytes}
 use Rattle.clerks_model.specs.Units.{max_units}
 use Rattle.clerks_model.specs.Answer.{Answer, two_clerks}
@@ -42,7 +42,7 @@ module _ (one two work : List ℕ) where
 
   pub refuses : (frame : List ℕ) {r : Bool} {t : Told} → r ≡ lengths_right one two work → not r ≡ true → t ≡ record { code = 1; one = 0; two = 0 }
       → record { code = t.code; one_length = t.one; two_length = t.two; one = one; two = two; work = work } ≡ asked frame one two work
-  unfolding asked if◌then◌else◌
+  unfolding asked when◌then◌else◌
   refuses frame {r = r} e h k = rw (← e, not-true r h, k)
 
   module _ {r : Bool} (e : r ≡ lengths_right one two work) (h : not r ≡ false) where
@@ -80,7 +80,7 @@ module _ (frame one two work : List ℕ) {r : Bool} (e : r ≡ lengths_right one
   filled_right (Answer.Lines a b) F = rw (F.0, F.1.place, F.2.place, front_filled a one' t.one F.1, front_filled b two' t.two F.2)
 
   pub fills : record { code = t.code; one_length = t.one; two_length = t.two; one = one'; two = two'; work = work' } ≡ asked frame one two work
-  unfolding asked if◌then◌else◌
+  unfolding asked when◌then◌else◌
   fills =
       let l = lengths one two work e h in
       let a : one₀ ≡ zeros line_bytes = z ∙ ap zeros l.0 in

@@ -13,7 +13,7 @@ use borrow.Author.Tests.{lt-ltb, le-ltb}
 use Rattle.format.specs.Format.{list, below, via, ◌⊗◌}
 use Rattle.model.specs.Event.{Text, AttendeeRole, Participation, ParticipantKind, Attendee, NormalizedEvent, ProviderEvent}
 use Rattle.model.specs.Limits.{max_attendees}
-use Rattle.model.specs.Maps.{if◌then◌else◌, same_text, is_some}
+use Rattle.model.specs.Maps.{when◌then◌else◌, same_text, is_some}
 use Rattle.model.specs.Formats.{attendee_f, fields_f, event_f}
 use Rattle.model.specs.Merge.{to_ascii_lowercase}
 use Rattle.model.proofs.Tables.{same_self, same_true}
@@ -51,11 +51,11 @@ event_list_stood B = fields_list (fields_stood B)
 -- ---- an address stands
 
 nth_entry : (w : Text) (l : List Attendee) → nth_in w 0 l ≡ entry w l
-unfolding entry folded if◌then◌else◌
+unfolding entry folded when◌then◌else◌
 nth_entry w [] = refl
 nth_entry w (a ∷ l) = go (same_text (to_ascii_lowercase a.address) w) (nth_entry w l)
   where
-    go : (b : Bool) → nth_in w 0 l ≡ entry w l → cond (b && eqb 0 0) (some a) (nth_in w (0 - one_if b) l) ≡ (if b then some a else entry w l)
+    go : (b : Bool) → nth_in w 0 l ≡ entry w l → cond (b && eqb 0 0) (some a) (nth_in w (0 - one_if b) l) ≡ (when b then some a else entry w l)
     go true ih = refl
     go false ih = ih
 
@@ -83,16 +83,16 @@ abbrev no_one : Attendee
 no_one = record { address = []; name = none; role = AttendeeRole.Required; participation = Participation.NeedsAction; kind = ParticipantKind.Individual }
 
 entry_snoc : (w : Text) (m : List Attendee) (a : Attendee) → is_some (entry w (m ++ a ∷ [])) ≡ (is_some (entry w m) || same_text (folded a) w)
-unfolding entry is_some if◌then◌else◌
+unfolding entry is_some when◌then◌else◌
 entry_snoc w [] a = go (same_text (folded a) w)
   where
-    go : (b : Bool) → is_some (if b then some a else none) ≡ b
+    go : (b : Bool) → is_some (when b then some a else none) ≡ b
     go true = refl
     go false = refl
 entry_snoc w (x ∷ m) a = go (same_text (folded x) w) (entry_snoc w m a)
   where
     go : (b : Bool) → is_some (entry w (m ++ a ∷ [])) ≡ (is_some (entry w m) || same_text (folded a) w)
-        → is_some (if b then some x else entry w (m ++ a ∷ [])) ≡ (is_some (if b then some x else entry w m) || same_text (folded a) w)
+        → is_some (when b then some x else entry w (m ++ a ∷ [])) ≡ (is_some (when b then some x else entry w m) || same_text (folded a) w)
     go true ih = refl
     go false ih = ih
 
@@ -106,13 +106,13 @@ same_sym a b = go (same_text a b) (same_text b a) refl refl
     go false false e f = refl
 
 apart_snoc : (m : List Attendee) (a : Attendee) → apart (m ++ a ∷ []) ≡ (apart m && not (is_some (entry (folded a) m)))
-unfolding apart entry is_some if◌then◌else◌
+unfolding apart entry is_some when◌then◌else◌
 apart_snoc [] a = refl
 apart_snoc (b ∷ m) a =
     rw (entry_snoc (folded b) m a, apart_snoc m a, same_sym (folded a) (folded b))
     (go (is_some (entry (folded b) m)) (same_text (folded b) (folded a)) (apart m))
   where
-    go : (x y z : Bool) → (not (x || y) && (z && not (is_some (entry (folded a) m)))) ≡ ((not x && z) && not (is_some (if y then some b else entry (folded a) m)))
+    go : (x y z : Bool) → (not (x || y) && (z && not (is_some (entry (folded a) m)))) ≡ ((not x && z) && not (is_some (when y then some b else entry (folded a) m)))
     go true y z = refl
     go false true true = refl
     go false true false = refl

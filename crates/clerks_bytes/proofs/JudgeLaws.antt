@@ -7,7 +7,7 @@ use mathlib.Core.Bool.{Bool, true, false, not, true≢false}
 use lib.ListN.{length}
 use lib.Dec.{T}
 use Rattle.format.specs.Format.{whole_of}
-use Rattle.model.specs.Maps.{if◌then◌else◌}
+use Rattle.model.specs.Maps.{when◌then◌else◌}
 use Rattle.clerks_model.specs.Frame.{clerks_f}
 use Rattle.clerks_model.specs.Frame as model
 use Rattle.clerks_model.specs.Writes.{accepted}
@@ -57,7 +57,7 @@ module _ (frame : List ℕ) (c : Clerks) (R : Reads frame c) (ok : c.ok ≡ true
   answer = ap answered h.is
 
   pub fills_twice : (one two : List ℕ) (r : Told) → d ≡ true → r ≡ no 10 → Fills frame one two one two r
-  unfolding judged if◌then◌else◌
+  unfolding judged when◌then◌else◌
   fills_twice one two r e t =
       let j : judged h.v ≡ Answer.Refused 10 = rw (not_so (all_apart h.v) (twice h.v h.holds) e) in
       subst (λ (x : Answer). Filled x one two one two r) (sym (answer ∙ j)) (t, refl, refl)
@@ -73,7 +73,7 @@ module _ (frame : List ℕ) (c : Clerks) (R : Reads frame c) (ok : c.ok ≡ true
     many = A.is h.v h.holds all_so long
 
     pub fills_too_many : (one two : List ℕ) (r : Told) → m ≡ true → r ≡ no 6 → Fills frame one two one two r
-    unfolding judged if◌then◌else◌
+    unfolding judged when◌then◌else◌
     fills_too_many one two r f t =
         let j : judged h.v ≡ Answer.Refused 6 = rw (all, not_so (both_accepted h.v) many f) in
         subst (λ (x : Answer). Filled x one two one two r) (sym (answer ∙ j)) (t, refl, refl)
@@ -88,7 +88,7 @@ module _ (frame : List ℕ) (c : Clerks) (R : Reads frame c) (ok : c.ok ≡ true
       pub fills_lines : (one two one' two' work₁ work₂ : List ℕ) (a b : ℕ) → length one ≡ line_bytes → length two ≡ line_bytes
           → WritesLine frame c c.one c.two one one' work' work₁ a → WritesLine frame c c.two c.one two two' work₁ work₂ b
           → Fills frame one two one' two' (record { code = 0; one = a; two = b })
-      unfolding judged if◌then◌else◌
+      unfolding judged when◌then◌else◌
       fills_lines one two one' two' work₁ work₂ a b l k X Y =
           let j : judged h.v ≡ Answer.Lines (line h.v (party_one h.v) (party_two h.v)) (line h.v (party_two h.v) (party_one h.v)) =
           rw (all, so (both_accepted h.v) many f) in

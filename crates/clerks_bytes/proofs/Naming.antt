@@ -12,7 +12,7 @@ use Rattle.format.specs.Format.{list}
 use Rattle.model.specs.Event.{Text, AttendeeRole, Participation, ParticipantKind, Attendee, NormalizedEvent}
 use Rattle.model.specs.Parts.{Role}
 use Rattle.model.specs.Limits.{max_attendees}
-use Rattle.model.specs.Maps.{if◌then◌else◌, map, filter, is_some}
+use Rattle.model.specs.Maps.{when◌then◌else◌, map, filter, is_some}
 use Rattle.model.specs.Formats.{attendee_f, role_f}
 use Rattle.model.specs.Merge.{to_ascii_lowercase, is_own, is_owner}
 use Rattle.model.proofs.Fitting.{map-append}
@@ -57,8 +57,8 @@ module _ (x y : Placed) (e : NormalizedEvent) where
   abbrev picked : (first second : Bool) → ℕ
   picked first second = cond first x.number (cond second y.number 0)
 
-  chosen : (a b : Bool) → number_of x y (if a then Named.First else (if b then Named.Second else Named.Nobody)) ≡ picked a b
-  unfolding number_of if◌then◌else◌
+  chosen : (a b : Bool) → number_of x y (when a then Named.First else (when b then Named.Second else Named.Nobody)) ≡ picked a b
+  unfolding number_of when◌then◌else◌
   chosen true b = refl
   chosen false true = refl
   chosen false false = refl
@@ -85,7 +85,7 @@ module _ (x y : Placed) (e : NormalizedEvent) where
   reminders_is : name Unit.Reminders ≡ x.number
   unfolding named may_change attendee_may saved_by by_kind is_reminders
   reminders_is =
-      ap (λ (a : Bool). number_of x y (if a then Named.First else (if (is_owner y.party.role || true) && true then Named.Second else Named.Nobody)))
+      ap (λ (a : Bool). number_of x y (when a then Named.First else (when (is_owner y.party.role || true) && true then Named.Second else Named.Nobody)))
       (always (is_owner x.party.role)) ∙ chosen true ((is_owner y.party.role || true) && true)
     where
       always : (a : Bool) → (a || true) ≡ true
@@ -106,11 +106,11 @@ abbrev no_one : Attendee
 no_one = record { address = []; name = none; role = AttendeeRole.Required; participation = Participation.NeedsAction; kind = ParticipantKind.Individual }
 
 filter_append : {A : Type 0} (p : A → Bool) (a b : List A) → filter p (a ++ b) ≡ filter p a ++ filter p b
-unfolding filter if◌then◌else◌
+unfolding filter when◌then◌else◌
 filter_append p [] b = refl
 filter_append {A = A} p (x ∷ a) b = go (p x) (filter_append p a b)
   where
-    go : (c : Bool) → filter p (a ++ b) ≡ filter p a ++ filter p b → (if c then x ∷ filter p (a ++ b) else filter p (a ++ b)) ≡ (if c then x ∷ filter p a else filter p a) ++ filter p b
+    go : (c : Bool) → filter p (a ++ b) ≡ filter p a ++ filter p b → (when c then x ∷ filter p (a ++ b) else filter p (a ++ b)) ≡ (when c then x ∷ filter p a else filter p a) ++ filter p b
     go true ih = ap (λ (l : List A). x ∷ l) ih
     go false ih = ih
 
@@ -135,12 +135,12 @@ module _ (x y : Placed) (e : NormalizedEvent) (p q lb : List ℕ) (P : Begins ro
 
   module _ (before also : List ℕ) (b a : List Attendee) (B : Says before b) (A : Says also a) where
     new_name_lem : (c : Attendee) → new_name order p q lb before also c.address ≡ keyed_names (map folded (new_in b a (c ∷ [])))
-    unfolding new_name filter if◌then◌else◌ folded map entry_units
+    unfolding new_name filter when◌then◌else◌ folded map entry_units
     new_name_lem c = rw (B c.address, A c.address)
         (go (is_some (entry (to_ascii_lowercase c.address) b) || is_some (entry (to_ascii_lowercase c.address) a)) (entry_are c.address))
       where
         go : (t : Bool) → entry_names order p q lb c.address ≡ keyed_names (to_ascii_lowercase c.address ∷ [])
-            → cond t [] (entry_names order p q lb c.address) ≡ keyed_names (map folded (if not t then c ∷ [] else []))
+            → cond t [] (entry_names order p q lb c.address) ≡ keyed_names (map folded (when not t then c ∷ [] else []))
         go true ih = refl
         go false ih = ih
 

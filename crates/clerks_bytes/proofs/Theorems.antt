@@ -10,7 +10,7 @@ use lib.Seq.{take-append_seam}
 use lib.Dec.{T}
 use Rattle.format.specs.Format.{All, whole_of, ◌⊗◌, via}
 use Rattle.model.specs.Parts.{Role}
-use Rattle.model.specs.Maps.{if◌then◌else◌, map}
+use Rattle.model.specs.Maps.{when◌then◌else◌, map}
 use Rattle.model.specs.Formats.{Bytes}
 use Rattle.clerks_model.specs.Frame.{Clerks, party_f, clerks_f}
 use Rattle.clerks_model.specs.Units.{Unit, units}
@@ -75,11 +75,11 @@ not_lines n a b e = absurd (subst (λ (x : Answer). T (is_lines x)) (sym e) tt)
 
 judged_lines : (c : Clerks) (a b : Bytes) → judged c ≡ Answer.Lines a b
     → (all_apart c ≡ true) × ((both_accepted c ≡ true) × ((a ≡ line c (party_one c) (party_two c)) × (b ≡ line c (party_two c) (party_one c))))
-unfolding judged if◌then◌else◌ first_of second_of
+unfolding judged when◌then◌else◌ first_of second_of
 judged_lines c a b e = go (all_apart c) (both_accepted c) refl refl e
   where
     go : (x y : Bool) → all_apart c ≡ x → both_accepted c ≡ y
-        → (if not x then Answer.Refused 10 else (if not y then Answer.Refused 6 else Answer.Lines (line c (party_one c) (party_two c)) (line c (party_two c) (party_one c)))) ≡ Answer.Lines a b
+        → (when not x then Answer.Refused 10 else (when not y then Answer.Refused 6 else Answer.Lines (line c (party_one c) (party_two c)) (line c (party_two c) (party_one c)))) ≡ Answer.Lines a b
         → (all_apart c ≡ true) × ((both_accepted c ≡ true) × ((a ≡ line c (party_one c) (party_two c)) × (b ≡ line c (party_two c) (party_one c))))
     go false y f g e = not_lines _ a b e
     go true false f g e = not_lines _ a b e
@@ -132,12 +132,12 @@ unfolding filled
 filled_starts x = take-append_seam x _
 
 told_lines : (call : Called) → call.told.code ≡ 0 → Told call
-unfolding asked returned if◌then◌else◌
+unfolding asked returned when◌then◌else◌
 told_lines call z = go (lengths_right call.one call.two call.work) (two_clerks call.frame) refl call.is
   where
     go : (r : Bool) (x : Answer) → two_clerks call.frame ≡ x
         → record { code = call.told.code; one_length = call.told.one; two_length = call.told.two; one = call.one'; two = call.two'; work = call.work' }
-        ≡ (if r then returned x else record { code = 1; one_length = 0; two_length = 0; one = call.one; two = call.two; work = call.work })
+        ≡ (when r then returned x else record { code = 1; one_length = 0; two_length = 0; one = call.one; two = call.two; work = call.work })
         → Told call
     go false x e h = let k : call.told.code ≡ 1 = ap (λ (r : Returned). r.code) h in absurd (omega (arith, k, z))
     go true (Answer.Refused n) e h =

@@ -1,7 +1,7 @@
 -- What `two_clerks` returns and leaves in the lent buffers, for all bytes. Assumes nothing.
 use Rattle.std.specs.Prelude.{ℕ, ◌-◌, ◌≡◌, List, ◌++◌, Bool, ◌&&◌, eqb, length}
 use Rattle.spans.specs.Bytes.{zeros}
-use Rattle.model.specs.Maps.{if◌then◌else◌}
+use Rattle.model.specs.Maps.{when◌then◌else◌}
 use Rattle.model.specs.Formats.{Bytes}
 use Rattle.clerks_model.specs.Answer.{Answer, two_clerks}
 use Rattle.clerks_bytes.specs.Writes.{line_bytes, work_bytes, Front}
@@ -36,7 +36,7 @@ wrong_length = 1
 
 unfoldable pub asked : (frame one two work : Bytes) → Returned
 asked frame one two work =
-    if lengths_right one two work then returned (two_clerks frame)
+    when lengths_right one two work then returned (two_clerks frame)
     else record { code = wrong_length; one_length = 0; two_length = 0; one = one; two = two; work = work }
 
 -- what `judge` leaves of two buffers

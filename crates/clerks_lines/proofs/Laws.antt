@@ -8,7 +8,7 @@ use lib.ListN.{length, take, set, length-append}
 use lib.Seq.{take_at}
 use lib.Dec.{eqb}
 use borrow.Author.Tests.{lt-ltb, le-ltb, eq-eqb, ne_eqb}
-use Rattle.model.specs.Maps.{if◌then◌else◌}
+use Rattle.model.specs.Maps.{when◌then◌else◌}
 use Rattle.lines.specs.Lines.{digits, Puts}
 use Rattle.lines.proofs.Laws.{length_digits, puts_then, puts_taken}
 use Rattle.clerks_model.specs.Answer.{Answer, two_clerks}
@@ -80,7 +80,7 @@ returned_tells (Answer.Lines a b) h = record {
 }
 
 asked_is : (frame one two work : List ℕ) → length one ≡ line_bytes → length two ≡ line_bytes → length work ≡ work_bytes → asked frame one two work ≡ returned (two_clerks frame)
-unfolding asked lengths_right if◌then◌else◌
+unfolding asked lengths_right when◌then◌else◌
 asked_is frame one two work a b c = rw (eq-eqb (length one) line_bytes a, eq-eqb (length two) line_bytes b, eq-eqb (length work) work_bytes c)
 
 module _ (frame one two work one' two' work' : List ℕ) (r : Told)

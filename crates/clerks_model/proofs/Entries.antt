@@ -9,7 +9,7 @@ use lib.Dec.{T}
 use Rattle.format.specs.Format.{option}
 use Rattle.model.specs.Event.{Text, Attendee, NormalizedEvent, ProviderEvent}
 use Rattle.model.specs.Parts.{Role, Field, FieldValue}
-use Rattle.model.specs.Maps.{if◌then◌else◌, same_text, any, map, filter, is_some}
+use Rattle.model.specs.Maps.{when◌then◌else◌, same_text, any, map, filter, is_some}
 use Rattle.model.specs.Formats.{attendee_f}
 use Rattle.model.specs.Merge.{unreported, rest, with_participation, whole_entry, own_removed, own_reply, own_standing, own_entry, Key, Keyed, same_key, keyed, find, is_own, is_owner, entry_at, entries_at, extend, key_order, merge_attendees, merge}
 use Rattle.model.proofs.Tables.{same_self, same_true, and_both}
@@ -41,21 +41,21 @@ own_named key (some b) (some o) (some t) p (someone t' e) =
 
 module _ (role : Role) (b o t : Keyed) (co : (k : Key) → Called k.address (find o k)) (ct : (k : Key) → Called k.address (find t k)) where
   at_named : (k : Key) → Called k.address (entry_at role b o t k).value
-  unfolding entry_at if◌then◌else◌
+  unfolding entry_at when◌then◌else◌
   at_named k = elim (is_own role k) as
-      (λ c. Called k.address (if c then own_entry (find b k) (find o k) (find t k) else whole_entry (is_owner role) (find b k) (find o k) (find t k)).value) [
+      (λ c. Called k.address (when c then own_entry (find b k) (find o k) (find t k) else whole_entry (is_owner role) (find b k) (find o k) (find t k)).value) [
         | true ↦ own_named k.address (find b k) (find o k) (find t k) (co k) (ct k)
         | false ↦ whole_named k.address (is_owner role) (find b k) (find o k) (find t k) (co k) (ct k)
       ]
 
   entry_extend : (key : Text) (v : Option Attendee) (l : List Attendee) (k : Key) → Called k.address v → same_text k.address key ≡ false
       → entry key (extend role b o t v l) ≡ entry key l
-  unfolding extend entry if◌then◌else◌
+  unfolding extend entry when◌then◌else◌
   entry_extend key none l k nobody e = refl
   entry_extend key (some v) l k (someone v' f) e = rw (f, e) refl
 
   entry_here : (key : Text) (v : Option Attendee) (l : List Attendee) → Called key v → (v ≡ none → entry key l ≡ none) → entry key (extend role b o t v l) ≡ v
-  unfolding extend entry if◌then◌else◌
+  unfolding extend entry when◌then◌else◌
   entry_here key none l nobody n = n refl
   entry_here key (some v) l (someone v' f) n = rw (f, same_self key) refl
 
@@ -63,20 +63,20 @@ module _ (role : Role) (b o t : Keyed) (co : (k : Key) → Called k.address (fin
   key_is k key e f = ap₂ (λ (x : Text) (n : ℕ). record { address = x; occurrence = n }) (same_true k.address key f) e
 
   entry_in : (key : Text) (ks : List Key) → Firsts ks
-      → entry key (entries_at role b o t ks).value ≡ (if any (λ k. same_text k.address key) ks then (entry_at role b o t (first_key key)).value else none)
-  unfolding entries_at any if◌then◌else◌ unreported entry
+      → entry key (entries_at role b o t ks).value ≡ (when any (λ k. same_text k.address key) ks then (entry_at role b o t (first_key key)).value else none)
+  unfolding entries_at any when◌then◌else◌ unreported entry
   entry_in key [] firsts_end = refl
   entry_in key (k ∷ ks) (firsts_more k' ks' e f) = go (same_text k.address key) refl (entry_in key ks f)
     where
       own : Option Attendee
       own = (entry_at role b o t (first_key key)).value
 
-      none_then : (c : Bool) → own ≡ none → (if c then own else none) ≡ none
+      none_then : (c : Bool) → own ≡ none → (when c then own else none) ≡ none
       none_then true e = e
       none_then false e = refl
 
-      go : (c : Bool) → same_text k.address key ≡ c → entry key (entries_at role b o t ks).value ≡ (if any (λ k. same_text k.address key) ks then own else none)
-          → entry key (extend role b o t (entry_at role b o t k).value (entries_at role b o t ks).value) ≡ (if c || any (λ k. same_text k.address key) ks then own else none)
+      go : (c : Bool) → same_text k.address key ≡ c → entry key (entries_at role b o t ks).value ≡ (when any (λ k. same_text k.address key) ks then own else none)
+          → entry key (extend role b o t (entry_at role b o t k).value (entries_at role b o t ks).value) ≡ (when c || any (λ k. same_text k.address key) ks then own else none)
       go false g ih = entry_extend key (entry_at role b o t k).value _ k (at_named k) g ∙ ih
       go true g ih =
           let same-value : (entry_at role b o t k).value ≡ own = ap (λ (k : Key). (entry_at role b o t k).value) (key_is k key e g) in
@@ -111,23 +111,23 @@ any_right p [] b e = e
 any_right p (k ∷ a) b e = or_true_right (p k) (any p (a ++ b)) (any_right p a b e)
 
 found_here : (t : Keyed) (key : Text) (a : Attendee) → find t (first_key key) ≡ some a → any (has_address key) (keys t) ≡ true
-unfolding find if◌then◌else◌ any map
+unfolding find when◌then◌else◌ any map
 found_here [] key a e = absurd (none-ne-some a e)
 found_here (x ∷ t) key a e = go (same_key x.0 (first_key key)) refl (found_here t key a) e
   where
     go : (c : Bool) → same_key x.0 (first_key key) ≡ c → (find t (first_key key) ≡ some a → any (has_address key) (keys t) ≡ true)
-        → (if c then some x.1 else find t (first_key key)) ≡ some a → (has_address key x.0 || any (has_address key) (keys t)) ≡ true
+        → (when c then some x.1 else find t (first_key key)) ≡ some a → (has_address key x.0 || any (has_address key) (keys t)) ≡ true
     go true h ih e = or_true_left _ _ (ap (λ (k : Key). same_text k.address key) (same_key_is x.0 (first_key key) h) ∙ same_self key)
     go false h ih e = or_true_right (has_address key x.0) _ (ih e)
 
 found_new : (o t : Keyed) (key : Text) (a : Attendee) → find o (first_key key) ≡ some a → find t (first_key key) ≡ none
     → any (has_address key) (filter (λ k. not (is_some (find t k))) (keys o)) ≡ true
-unfolding find if◌then◌else◌ any map filter is_some
+unfolding find when◌then◌else◌ any map filter is_some
 found_new [] t key a e n = absurd (none-ne-some a e)
 found_new (x ∷ o) t key a e n = go (same_key x.0 (first_key key)) refl (found_new o t key a) e
   where
     more : Key → List Key → Bool → List Key
-    more k ks c = if c then k ∷ ks else ks
+    more k ks c = when c then k ∷ ks else ks
 
     any_more : (k : Key) (ks : List Key) (c : Bool) → any (has_address key) ks ≡ true → any (has_address key) (more k ks c) ≡ true
     any_more k ks true e = or_true_right (has_address key k) _ e
@@ -135,7 +135,7 @@ found_new (x ∷ o) t key a e n = go (same_key x.0 (first_key key)) refl (found_
 
     go : (c : Bool) → same_key x.0 (first_key key) ≡ c
         → (find o (first_key key) ≡ some a → find t (first_key key) ≡ none → any (has_address key) (filter (λ k. not (is_some (find t k))) (keys o)) ≡ true)
-        → (if c then some x.1 else find o (first_key key)) ≡ some a
+        → (when c then some x.1 else find o (first_key key)) ≡ some a
         → any (has_address key) (more x.0 (filter (λ k. not (is_some (find t k))) (keys o)) (not (is_some (find t x.0)))) ≡ true
     go true h ih e =
         let is : x.0 ≡ first_key key = same_key_is x.0 (first_key key) h in
@@ -144,7 +144,7 @@ found_new (x ∷ o) t key a e n = go (same_key x.0 (first_key key)) refl (found_
     go false h ih e = any_more x.0 _ (not (is_some (find t x.0))) (ih e n)
 
 both_none : (role : Role) (b o t : Keyed) (k : Key) → find o k ≡ none → find t k ≡ none → (entry_at role b o t k).value ≡ none
-unfolding entry_at if◌then◌else◌ own_entry whole_entry
+unfolding entry_at when◌then◌else◌ own_entry whole_entry
 both_none role b o t k e f = rw (e, f) (go (is_own role k) (find b k))
   where
     nothing_else : (b v : Option Attendee) → Part (option attendee_f) b none none v → v ≡ none
@@ -154,14 +154,14 @@ both_none role b o t k e f = rw (e, f) (go (is_own role k) (find b k))
     whole : (owned : Bool) (b : Option Attendee) → (whole_entry owned b none none).value ≡ none
     whole owned b = nothing_else b _ (part_is (option attendee_f) FieldValue.Attendee Field.Attendees _ owned b none none)
 
-    go : (c : Bool) (b : Option Attendee) → (if c then own_entry b none none else whole_entry (is_owner role) b none none).value ≡ none
+    go : (c : Bool) (b : Option Attendee) → (when c then own_entry b none none else whole_entry (is_owner role) b none none).value ≡ none
     go true none = whole false none
     go true (some b) = whole false (some b)
     go false b = whole (is_owner role) b
 
 -- one entry merged
 unfoldable pub entry_merged : Role → Text → Option Attendee → Option Attendee → Option Attendee → Option Attendee
-entry_merged role key b o t = (if is_own role (first_key key) then own_entry b o t else whole_entry (is_owner role) b o t).value
+entry_merged role key b o t = (when is_own role (first_key key) then own_entry b o t else whole_entry (is_owner role) b o t).value
 
 pub at_first : (role : Role) (b o t : List Attendee) (key : Text)
     → (entry_at role (keyed b) (keyed o) (keyed t) (first_key key)).value ≡ entry_merged role key (entry key b) (entry key o) (entry key t)
@@ -170,7 +170,7 @@ at_first role b o t key = rw (find_keyed b key, find_keyed o key, find_keyed t k
 
 merged_entry : (role : Role) (b o t : List Attendee) (key : Text) → T (apart o) → T (apart t)
     → entry key (merge_attendees role b o t).value ≡ entry_merged role key (entry key b) (entry key o) (entry key t)
-unfolding merge_attendees key_order if◌then◌else◌
+unfolding merge_attendees key_order when◌then◌else◌
 merged_entry role b o t key p q =
     entry_in role (keyed b) (keyed o) (keyed t) (find_called o) (find_called t) key (key_order (keyed o) (keyed t)) (firsts_order o t p q)
     ∙ go (find (keyed t) (first_key key)) refl (find (keyed o) (first_key key)) refl ∙ at_first role b o t key
@@ -181,10 +181,10 @@ merged_entry role b o t key p q =
     ks : List Key
     ks = key_order (keyed o) (keyed t)
 
-    go : (x : Option Attendee) → find (keyed t) (first_key key) ≡ x → (y : Option Attendee) → find (keyed o) (first_key key) ≡ y → (if any (has_address key) ks then at else none) ≡ at
-    go (some a) e y f = ap (λ (c : Bool). if c then at else none) (any_left (has_address key) (keys (keyed t)) _ (found_here (keyed t) key a e))
-    go none e (some a) f = ap (λ (c : Bool). if c then at else none) (any_right (has_address key) (keys (keyed t)) _ (found_new (keyed o) (keyed t) key a f e))
-    go none e none f = elim (any (has_address key) ks) as (λ c. (if c then at else none) ≡ at) [ true ↦ refl | false ↦ sym (both_none role (keyed b) (keyed o) (keyed t) (first_key key) f e) ]
+    go : (x : Option Attendee) → find (keyed t) (first_key key) ≡ x → (y : Option Attendee) → find (keyed o) (first_key key) ≡ y → (when any (has_address key) ks then at else none) ≡ at
+    go (some a) e y f = ap (λ (c : Bool). when c then at else none) (any_left (has_address key) (keys (keyed t)) _ (found_here (keyed t) key a e))
+    go none e (some a) f = ap (λ (c : Bool). when c then at else none) (any_right (has_address key) (keys (keyed t)) _ (found_new (keyed o) (keyed t) key a f e))
+    go none e none f = elim (any (has_address key) ks) as (λ c. (when c then at else none) ≡ at) [ true ↦ refl | false ↦ sym (both_none role (keyed b) (keyed o) (keyed t) (first_key key) f e) ]
 
 -- ---- no folded address twice in the merged list
 
@@ -204,7 +204,7 @@ absent_key k (j ∷ ks) e (firsts_more j' ks' f g) h = go (has_address k.address
 
 module _ (role : Role) (b o t : Keyed) (co : (k : Key) → Called k.address (find o k)) (ct : (k : Key) → Called k.address (find t k)) where
   entries_apart : (ks : List Key) → Firsts ks → Distinct ks → T (apart (entries_at role b o t ks).value)
-  unfolding entries_at apart unreported if◌then◌else◌ extend is_some
+  unfolding entries_at apart unreported when◌then◌else◌ extend is_some
   entries_apart [] firsts_end d = tt
   entries_apart (k ∷ ks) (firsts_more k' ks' e f) d = go (entry_at role b o t k).value (at_named role b o t co ct k) (entries_apart ks f (λ j. omega (arith, d j)))
     where
@@ -212,7 +212,7 @@ module _ (role : Role) (b o t : Keyed) (co : (k : Key) → Called k.address (fin
       once = omega (arith, d k, ap one_if (same_key_self k))
 
       alone : entry k.address (entries_at role b o t ks).value ≡ none
-      alone = entry_in role b o t co ct k.address ks f ∙ ap (λ (c : Bool). if c then (entry_at role b o t (first_key k.address)).value else none) (absent_key k ks e f once)
+      alone = entry_in role b o t co ct k.address ks f ∙ ap (λ (c : Bool). when c then (entry_at role b o t (first_key k.address)).value else none) (absent_key k ks e f once)
 
       go : (v : Option Attendee) → Called k.address v → T (apart (entries_at role b o t ks).value) → T (apart (extend role b o t v (entries_at role b o t ks).value))
       go none nobody ih = ih

@@ -7,7 +7,7 @@ use mathlib.Core.Bool.{Bool, true, false, not, ◌&&◌, true≢false}
 use lib.ListN.{length}
 use lib.Dec.{eqb, T}
 use Rattle.model.specs.Event.{Text, Attendee}
-use Rattle.model.specs.Maps.{if◌then◌else◌, same_text, map, filter, is_some}
+use Rattle.model.specs.Maps.{when◌then◌else◌, same_text, map, filter, is_some}
 use Rattle.model.specs.Merge.{Key, Keyed, same_key, key_of, keyed_after, keyed, find, key_order}
 use Rattle.model.proofs.Tables.{same_self, same_true, and_left, and_right}
 use Rattle.model.proofs.MergeKeys.{keys, keys_append, same_key_is, same_key_self}
@@ -20,22 +20,22 @@ first_key address = record { address = address; occurrence = 0 }
 -- ---- the first entry with an address has the key of occurrence 0
 
 find_keeps : (out l : Keyed) (k : Key) (a : Attendee) → find out k ≡ some a → find (out ++ l) k ≡ some a
-unfolding find if◌then◌else◌
+unfolding find when◌then◌else◌
 find_keeps [] l k a e = absurd (none-ne-some a e)
 find_keeps (x ∷ out) l k a e = go (same_key x.0 k) (find_keeps out l k a) e
   where
-    go : (c : Bool) → (find out k ≡ some a → find (out ++ l) k ≡ some a) → (if c then some x.1 else find out k) ≡ some a
-        → (if c then some x.1 else find (out ++ l) k) ≡ some a
+    go : (c : Bool) → (find out k ≡ some a → find (out ++ l) k ≡ some a) → (when c then some x.1 else find out k) ≡ some a
+        → (when c then some x.1 else find (out ++ l) k) ≡ some a
     go true ih e = e
     go false ih e = ih e
 
-find_snoc : (out : Keyed) (e : Key × Attendee) (k : Key) → find out k ≡ none → find (out ++ e ∷ []) k ≡ (if same_key e.0 k then some e.1 else none)
-unfolding find if◌then◌else◌
+find_snoc : (out : Keyed) (e : Key × Attendee) (k : Key) → find out k ≡ none → find (out ++ e ∷ []) k ≡ (when same_key e.0 k then some e.1 else none)
+unfolding find when◌then◌else◌
 find_snoc [] e k n = refl
 find_snoc (x ∷ out) e k n = go (same_key x.0 k) (find_snoc out e k) n
   where
-    go : (c : Bool) → (find out k ≡ none → find (out ++ e ∷ []) k ≡ (if same_key e.0 k then some e.1 else none)) → (if c then some x.1 else find out k) ≡ none
-        → (if c then some x.1 else find (out ++ e ∷ []) k) ≡ (if same_key e.0 k then some e.1 else none)
+    go : (c : Bool) → (find out k ≡ none → find (out ++ e ∷ []) k ≡ (when same_key e.0 k then some e.1 else none)) → (when c then some x.1 else find out k) ≡ none
+        → (when c then some x.1 else find (out ++ e ∷ []) k) ≡ (when same_key e.0 k then some e.1 else none)
     go true ih n = absurd (none-ne-some x.1 (sym n))
     go false ih n = ih n
 
@@ -60,13 +60,13 @@ abbrev Without : Keyed → Text → Type 0
 Without out key = filter (λ e. same_text e.0.address key) out ≡ []
 
 without_snoc : (out : Keyed) (e : Key × Attendee) (key : Text) → Without out key → same_text e.0.address key ≡ false → Without (out ++ e ∷ []) key
-unfolding filter if◌then◌else◌
+unfolding filter when◌then◌else◌
 without_snoc [] e key w f = rw f refl
 without_snoc (x ∷ out) e key w f = go (same_text x.0.address key) (without_snoc out e key) w
   where
     go : (c : Bool) → (Without out key → same_text e.0.address key ≡ false → Without (out ++ e ∷ []) key)
-        → (if c then x ∷ filter (λ e. same_text e.0.address key) out else filter (λ e. same_text e.0.address key) out) ≡ []
-        → (if c then x ∷ filter (λ e. same_text e.0.address key) (out ++ e ∷ []) else filter (λ e. same_text e.0.address key) (out ++ e ∷ [])) ≡ []
+        → (when c then x ∷ filter (λ e. same_text e.0.address key) out else filter (λ e. same_text e.0.address key) out) ≡ []
+        → (when c then x ∷ filter (λ e. same_text e.0.address key) (out ++ e ∷ []) else filter (λ e. same_text e.0.address key) (out ++ e ∷ [])) ≡ []
     go true ih w = no_cons x _ w
     go false ih w = ih w f
 
@@ -78,20 +78,20 @@ first_of_all out a key w e =
     (ap (λ (x : Text). length (filter (λ (e : Key × Attendee). same_text e.0.address x) out)) e ∙ ap (λ (l : Keyed). length l) w)
 
 find_first : (out : Keyed) (l : List Attendee) (key : Text) → find out (first_key key) ≡ none → Without out key → find (keyed_after out l) (first_key key) ≡ entry key l
-unfolding keyed_after entry if◌then◌else◌
+unfolding keyed_after entry when◌then◌else◌
 find_first out [] key n w = n
 find_first out (a ∷ l) key n w = go (same_text (folded a) key) refl (find_first (out ++ (key_of out a, a) ∷ []) l key)
   where
     go : (c : Bool) → same_text (folded a) key ≡ c
         → (find (out ++ (key_of out a, a) ∷ []) (first_key key) ≡ none → Without (out ++ (key_of out a, a) ∷ []) key
         → find (keyed_after (out ++ (key_of out a, a) ∷ []) l) (first_key key) ≡ entry key l)
-        → find (keyed_after (out ++ (key_of out a, a) ∷ []) l) (first_key key) ≡ (if c then some a else entry key l)
+        → find (keyed_after (out ++ (key_of out a, a) ∷ []) l) (first_key key) ≡ (when c then some a else entry key l)
     go true e ih = find_after_keeps (out ++ (key_of out a, a) ∷ []) l (first_key key) a
         (find_snoc out (key_of out a, a) (first_key key) n
-        ∙ ap (λ (c : Bool). if c then some a else none)
+        ∙ ap (λ (c : Bool). when c then some a else none)
         (ap (λ (k : Key). same_key k (first_key key)) (first_of_all out a key w (same_true (folded a) key e)) ∙ same_key_self (first_key key)))
     go false e ih = ih
-        (find_snoc out (key_of out a, a) (first_key key) n ∙ ap (λ (c : Bool). if c then some a else none) (other_key (key_of out a) key (ap (λ (x : Text). same_text x key) (key_named out a) ∙ e)))
+        (find_snoc out (key_of out a, a) (first_key key) n ∙ ap (λ (c : Bool). when c then some a else none) (other_key (key_of out a) key (ap (λ (x : Text). same_text x key) (key_named out a) ∙ e)))
         (without_snoc out (key_of out a, a) key w (ap (λ (x : Text). same_text x key) (key_named out a) ∙ e))
 
 pub find_keyed : (l : List Attendee) (key : Text) → find (keyed l) (first_key key) ≡ entry key l
@@ -109,9 +109,9 @@ firsts_append [] b firsts_end g = g
 firsts_append (k ∷ a) b (firsts_more k' a' e f) g = firsts_more k (a ++ b) e (firsts_append a b f g)
 
 firsts_filter : (p : Key → Bool) (ks : List Key) → Firsts ks → Firsts (filter p ks)
-unfolding filter if◌then◌else◌
+unfolding filter when◌then◌else◌
 firsts_filter p [] firsts_end = firsts_end
-firsts_filter p (k ∷ ks) (firsts_more k' ks' e f) = elim (p k) as (λ c. Firsts (if c then k ∷ filter p ks else filter p ks))
+firsts_filter p (k ∷ ks) (firsts_more k' ks' e f) = elim (p k) as (λ c. Firsts (when c then k ∷ filter p ks else filter p ks))
     [ true ↦ firsts_more k (filter p ks) e (firsts_filter p ks f) | false ↦ firsts_filter p ks f ]
 
 -- none of the list's addresses stands among those already out
@@ -120,10 +120,10 @@ data Clear (out : Keyed) : List Attendee → Type 0 where
   clear_more : (a : Attendee) (l : List Attendee) → Without out (folded a) → Clear out l → Clear out (a ∷ l)
 
 pub entry_none_head : (key : Text) (a : Attendee) (l : List Attendee) → entry key (a ∷ l) ≡ none → (same_text (folded a) key ≡ false) × (entry key l ≡ none)
-unfolding entry if◌then◌else◌
+unfolding entry when◌then◌else◌
 entry_none_head key a l e = go (same_text (folded a) key) refl e
   where
-    go : (c : Bool) → same_text (folded a) key ≡ c → (if c then some a else entry key l) ≡ none → (same_text (folded a) key ≡ false) × (entry key l ≡ none)
+    go : (c : Bool) → same_text (folded a) key ≡ c → (when c then some a else entry key l) ≡ none → (same_text (folded a) key ≡ false) × (entry key l ≡ none)
     go true f e = absurd (none-ne-some a (sym e))
     go false f e = (f, e)
 
@@ -175,10 +175,10 @@ pub data Called (key : Text) : Option Attendee → Type 0 where
   someone : (a : Attendee) → folded a ≡ key → Called key (some a)
 
 called_snoc : (out : Keyed) (a : Attendee) (k : Key) → Called k.address (find out k) → Called k.address (find (out ++ (key_of out a, a) ∷ []) k)
-unfolding if◌then◌else◌
+unfolding when◌then◌else◌
 called_snoc out a k c = go (find out k) refl c
   where
-    here : (b : Bool) → same_key (key_of out a) k ≡ b → Called k.address (if b then some a else none)
+    here : (b : Bool) → same_key (key_of out a) k ≡ b → Called k.address (when b then some a else none)
     here true e = someone a (sym (key_named out a) ∙ ap (λ (k : Key). k.address) (same_key_is (key_of out a) k e))
     here false e = nobody
 

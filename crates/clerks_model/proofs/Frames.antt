@@ -10,7 +10,7 @@ use Rattle.format.proofs.FormatLaws.{pair_law, via_law}
 use Rattle.format.proofs.WholeLaws.{whole}
 use Rattle.model.specs.Event.{Text, Attendee, NormalizedEvent}
 use Rattle.model.specs.Limits.{max_attendees}
-use Rattle.model.specs.Maps.{if◌then◌else◌, same_text, any}
+use Rattle.model.specs.Maps.{when◌then◌else◌, same_text, any}
 use Rattle.model.specs.Formats.{attendee_f, fields_f}
 use Rattle.model.proofs.FormatsLaws.{role_f_law, fields_f_law, event_f_law}
 use Rattle.model.proofs.Fitting.{all_append}
@@ -53,9 +53,9 @@ record Somebody (key : Text) : Type 0 where
   is : folded who ≡ key
 
 added : (keys : List Text) (l : List Attendee) → All Somebody keys → All attendee_f.Ok l → All Somebody (add_new keys l)
-unfolding add_new if◌then◌else◌
+unfolding add_new when◌then◌else◌
 added keys [] p q = p
-added keys (a ∷ l) p q = elim (any (same_text (folded a)) keys) as (λ c. All Somebody (add_new (if c then keys else keys ++ folded a ∷ []) l)) [
+added keys (a ∷ l) p q = elim (any (same_text (folded a)) keys) as (λ c. All Somebody (add_new (when c then keys else keys ++ folded a ∷ []) l)) [
   | true ↦ added keys l p q.1
   | false ↦ added (keys ++ folded a ∷ []) l (all_append Somebody keys (folded a ∷ []) p (record { who = a; ok = q.0; is = refl }, tt)) q.1
 ]
@@ -92,9 +92,9 @@ units_proper c h = all_append Proper fields_before (entry_units (entry_keys c) +
 -- ---- how many they are
 
 length_added : (keys : List Text) (l : List Attendee) → length (add_new keys l) ≤ length keys + length l
-unfolding add_new if◌then◌else◌
+unfolding add_new when◌then◌else◌
 length_added keys [] = omega arith
-length_added keys (a ∷ l) = elim (any (same_text (folded a)) keys) as (λ c. length (add_new (if c then keys else keys ++ folded a ∷ []) l) ≤ length keys + length (a ∷ l)) [
+length_added keys (a ∷ l) = elim (any (same_text (folded a)) keys) as (λ c. length (add_new (when c then keys else keys ++ folded a ∷ []) l) ≤ length keys + length (a ∷ l)) [
   | true ↦ omega (arith, length_added keys l)
   | false ↦ omega (arith, length_added (keys ++ folded a ∷ []) l, length-append keys (folded a ∷ []))
 ]

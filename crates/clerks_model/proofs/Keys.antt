@@ -9,7 +9,7 @@ use mathlib.Core.Bool.{Bool, true, false, not, ◌&&◌, ◌||◌}
 use lib.ListN.{length}
 use lib.Dec.{T}
 use Rattle.model.specs.Event.{Text, Attendee}
-use Rattle.model.specs.Maps.{if◌then◌else◌, same_text, any, filter, map, is_some}
+use Rattle.model.specs.Maps.{when◌then◌else◌, same_text, any, filter, map, is_some}
 use Rattle.model.proofs.Tables.{same_true, same_self, and_left, and_right}
 use Rattle.model.proofs.Fitting.{filter_same, length-map}
 use Rattle.clerks_model.specs.Frame.{Clerks, clerks_f}
@@ -41,12 +41,12 @@ other_new : (keys : List Text) (k : Text) (l : List Attendee) → entry k l ≡ 
 unfolding filter any
 other_new keys k [] e = refl
 other_new keys k (a ∷ l) e =
-    ap (λ (c : Bool). if not c then a ∷ filter (λ a. not (any (same_text (folded a)) (keys ++ k ∷ []))) l else filter (λ a. not (any (same_text (folded a)) (keys ++ k ∷ []))) l)
+    ap (λ (c : Bool). when not c then a ∷ filter (λ a. not (any (same_text (folded a)) (keys ++ k ∷ []))) l else filter (λ a. not (any (same_text (folded a)) (keys ++ k ∷ []))) l)
     (any_append (same_text (folded a)) keys (k ∷ []) ∙ ap (λ (c : Bool). any (same_text (folded a)) keys || (c || false)) (entry_none_head k a l e).0 ∙ or-false (any (same_text (folded a)) keys))
-    ∙ ap (λ (m : List Attendee). if not (any (same_text (folded a)) keys) then a ∷ m else m) (other_new keys k l (entry_none_head k a l e).1)
+    ∙ ap (λ (m : List Attendee). when not (any (same_text (folded a)) keys) then a ∷ m else m) (other_new keys k l (entry_none_head k a l e).1)
 
 add_apart : (keys : List Text) (l : List Attendee) → T (apart l) → add_new keys l ≡ keys ++ map folded (filter (λ a. not (any (same_text (folded a)) keys)) l)
-unfolding add_new apart filter map if◌then◌else◌
+unfolding add_new apart filter map when◌then◌else◌
 add_apart keys [] t = sym (append-nil keys)
 add_apart keys (a ∷ l) t = go (any (same_text (folded a)) keys) (λ ks. add_apart ks l)
   where
@@ -60,7 +60,7 @@ add_apart keys (a ∷ l) t = go (any (same_text (folded a)) keys) (λ ks. add_ap
     alone = is_none (entry (folded a) l) (and_left (not (is_some (entry (folded a) l))) (apart l) t)
 
     go : (c : Bool) → ((ks : List Text) → T (apart l) → add_new ks l ≡ ks ++ map folded (filter (λ a. not (any (same_text (folded a)) ks)) l))
-        → add_new (if c then keys else keys ++ folded a ∷ []) l ≡ keys ++ map folded (if not c then a ∷ new else new)
+        → add_new (when c then keys else keys ++ folded a ∷ []) l ≡ keys ++ map folded (when not c then a ∷ new else new)
     go true ih = ih keys behind
     go false ih = ih (keys ++ folded a ∷ []) behind
         ∙ ap (λ (m : List Attendee). (keys ++ folded a ∷ []) ++ map folded m) (other_new keys (folded a) l alone)
@@ -81,20 +81,20 @@ same_turned a b = go (same_text a b) refl
 -- an address that is not among the names stands in the list, or not among its new entries either
 among_new : (has : Text → Bool) (k : Text) → has k ≡ false → (l : List Attendee)
     → any (same_text k) (map folded (filter (λ a. not (has (folded a))) l)) ≡ is_some (entry k l)
-unfolding any map filter entry if◌then◌else◌ is_some
+unfolding any map filter entry when◌then◌else◌ is_some
 among_new has k n [] = refl
 among_new has k n (a ∷ l) = go (same_text (folded a) k) refl (among_new has k n l)
   where
     new : List Attendee
     new = filter (λ a. not (has (folded a))) l
 
-    old : (c : Bool) → same_text k (folded a) ≡ false → any (same_text k) (map folded (if not c then a ∷ new else new)) ≡ any (same_text k) (map folded new)
+    old : (c : Bool) → same_text k (folded a) ≡ false → any (same_text k) (map folded (when not c then a ∷ new else new)) ≡ any (same_text k) (map folded new)
     old true e = refl
     old false e = ap (λ (d : Bool). d || any (same_text k) (map folded new)) e
 
     go : (c : Bool) → same_text (folded a) k ≡ c → any (same_text k) (map folded new) ≡ is_some (entry k l)
-        → any (same_text k) (map folded (if not (has (folded a)) then a ∷ new else new)) ≡ is_some (if c then some a else entry k l)
-    go true e ih = ap (λ (c : Bool). any (same_text k) (map folded (if not c then a ∷ new else new))) (ap has (same_true (folded a) k e) ∙ n)
+        → any (same_text k) (map folded (when not (has (folded a)) then a ∷ new else new)) ≡ is_some (when c then some a else entry k l)
+    go true e ih = ap (λ (c : Bool). any (same_text k) (map folded (when not c then a ∷ new else new))) (ap has (same_true (folded a) k e) ∙ n)
         ∙ ap (λ (c : Bool). c || any (same_text k) (map folded new)) (same_turned k (folded a) ∙ e)
     go false e ih = old (has (folded a)) (same_turned k (folded a) ∙ e) ∙ ih
 

@@ -9,7 +9,7 @@ use Rattle.format.proofs.FormatLaws.{option_law}
 use Rattle.format.proofs.WholeLaws.{enc_injective}
 use Rattle.model.specs.Event.{Text, Attendee, NormalizedEvent}
 use Rattle.model.specs.Parts.{Role, Field, FieldValue}
-use Rattle.model.specs.Maps.{if◌then◌else◌, same_text, is_some}
+use Rattle.model.specs.Maps.{when◌then◌else◌, same_text, is_some}
 use Rattle.model.specs.Formats.{attendee_f, participation_f, fields_f}
 use Rattle.model.specs.Merge.{rest, with_participation, whole_entry, own_removed, own_reply, own_standing, own_entry, to_ascii_lowercase, is_own, is_owner}
 use Rattle.model.proofs.FormatsLaws.{attendee_f_law}
@@ -22,9 +22,9 @@ use Rattle.clerks_model.proofs.FirstKeys.{first_key}
 use Rattle.clerks_model.proofs.Entries.{entry_merged}
 
 entry_fits : (key : Text) (l : List Attendee) → All attendee_f.Ok l → (option attendee_f).Ok (entry key l)
-unfolding entry if◌then◌else◌
+unfolding entry when◌then◌else◌
 entry_fits key [] h = none_ok attendee_f
-entry_fits key (a ∷ l) h = elim (same_text (folded a) key) as (λ c. (option attendee_f).Ok (if c then some a else entry key l))
+entry_fits key (a ∷ l) h = elim (same_text (folded a) key) as (λ c. (option attendee_f).Ok (when c then some a else entry key l))
     [ true ↦ some_ok attendee_f a h.0 | false ↦ entry_fits key l h.1 ]
 
 pub entry_ok : (key : Text) (w : NormalizedEvent) → fields_f.Ok w → (option attendee_f).Ok (entry key w.attendees)
@@ -53,7 +53,7 @@ whole_moved g b o t v okb okt (moves e) n = ap g (enc_injective (option_law atte
 module _ (g : Option Attendee → Value) (standing : (b o t : Attendee) → (g (own_standing b o t).value ≡ g (some t) → ⊥) → g (some t) ≡ g (some b)) where
   entry_moved : (role : Role) (key : Text) (b o t : Option Attendee) → (option attendee_f).Ok b → (option attendee_f).Ok t
       → (g (entry_merged role key b o t) ≡ g t → ⊥) → g t ≡ g b
-  unfolding entry_merged if◌then◌else◌ whole_entry own_entry own_removed
+  unfolding entry_merged when◌then◌else◌ whole_entry own_entry own_removed
   entry_moved role key b o t p q n = go (is_own role (first_key key)) n
     where
       whole : (owned : Bool) (b o t : Option Attendee) → (option attendee_f).Ok b → (option attendee_f).Ok t → (g (whole_entry owned b o t).value ≡ g t → ⊥) → g t ≡ g b
@@ -65,7 +65,7 @@ module _ (g : Option Attendee → Value) (standing : (b o t : Attendee) → (g (
       own (some b) (some o) none p q n = absurd (n refl)
       own (some b) (some o) (some t) p q n = standing b o t n
 
-      go : (c : Bool) → (g (if c then own_entry b o t else whole_entry (is_owner role) b o t).value ≡ g t → ⊥) → g t ≡ g b
+      go : (c : Bool) → (g (when c then own_entry b o t else whole_entry (is_owner role) b o t).value ≡ g t → ⊥) → g t ≡ g b
       go true n = own b o t p q n
       go false n = whole (is_owner role) b o t p q n
 
@@ -80,7 +80,7 @@ reply_moved = entry_moved reply_of standing_reply
 -- ---- an owner
 
 pub owner_entry : (key : Text) (b o : Option Attendee) → (option attendee_f).Ok b → (option attendee_f).Ok o → entry_merged Role.Owner key b o b ≡ o
-unfolding entry_merged is_own is_owner if◌then◌else◌ whole_entry
+unfolding entry_merged is_own is_owner when◌then◌else◌ whole_entry
 owner_entry key b o p q =
     enc_injective (option_law attendee_f_law) _ o (part_ok (option attendee_f) b o b _ (part_is (option attendee_f) FieldValue.Attendee Field.Attendees _ true b o b) q p) q
     (part_owned (option attendee_f) FieldValue.Attendee Field.Attendees _ b o b refl)
@@ -106,9 +106,9 @@ own_of address key e h = go (same_text (to_ascii_lowercase address) key) refl h
 -- the reply that it gives in its own entry is the one that results
 pub own_writes : (address key : Text) (b o : Option Attendee) (v : Value) → Own address key b → reply_of o ≡ v → T (is_some v)
     → reply_of (entry_merged (Role.Attendee address) key b o b) ≡ v
-unfolding entry_merged is_own if◌then◌else◌ own_entry own_standing reply_of with_participation is_some
+unfolding entry_merged is_own when◌then◌else◌ own_entry own_standing reply_of with_participation is_some
 own_writes address key b o v w e s =
-    ap (λ (c : Bool). reply_of (if c then own_entry b o b else whole_entry (is_owner (Role.Attendee address)) b o b).value) w.own ∙ go b w.there o e
+    ap (λ (c : Bool). reply_of (when c then own_entry b o b else whole_entry (is_owner (Role.Attendee address)) b o b).value) w.own ∙ go b w.there o e
   where
     go : (b : Option Attendee) → T (is_some b) → (o : Option Attendee) → reply_of o ≡ v → reply_of (own_entry b o b).value ≡ v
     go none t o e = absurd t
@@ -122,7 +122,7 @@ whole_kept b o t = (part_theirs (option attendee_f) FieldValue.Attendee Field.At
 -- an entry that is not its own, or not there
 pub entry_kept : (address key : Text) (b o : Option Attendee) → (same_text (to_ascii_lowercase address) key && is_some b) ≡ false
     → entry_merged (Role.Attendee address) key b o b ≡ b
-unfolding entry_merged is_own if◌then◌else◌ is_owner own_entry is_some
+unfolding entry_merged is_own when◌then◌else◌ is_owner own_entry is_some
 entry_kept address key b o h = go (same_text (to_ascii_lowercase address) key) refl h
   where
     own : (b : Option Attendee) → is_some b ≡ false → (own_entry b o b).value ≡ b
@@ -130,14 +130,14 @@ entry_kept address key b o h = go (same_text (to_ascii_lowercase address) key) r
     own (some b) e = absurd (true≢false e)
 
     go : (c : Bool) → same_text (to_ascii_lowercase address) key ≡ c → (c && is_some b) ≡ false
-        → (if same_text (to_ascii_lowercase address) key then own_entry b o b else whole_entry false b o b).value ≡ b
-    go true g h = ap (λ (c : Bool). (if c then own_entry b o b else whole_entry false b o b).value) g ∙ own b h
-    go false g h = ap (λ (c : Bool). (if c then own_entry b o b else whole_entry false b o b).value) g ∙ whole_kept b o b
+        → (when same_text (to_ascii_lowercase address) key then own_entry b o b else whole_entry false b o b).value ≡ b
+    go true g h = ap (λ (c : Bool). (when c then own_entry b o b else whole_entry false b o b).value) g ∙ own b h
+    go false g h = ap (λ (c : Bool). (when c then own_entry b o b else whole_entry false b o b).value) g ∙ whole_kept b o b
 
 -- the rest of every entry
 pub attendee_rest : (address key : Text) (b o t : Option Attendee) → rest_of (entry_merged (Role.Attendee address) key b o t) ≡ rest_of t
-unfolding entry_merged if◌then◌else◌ own_entry own_removed is_owner
-attendee_rest address key b o t = elim (is_own (Role.Attendee address) (first_key key)) as (λ c. rest_of (if c then own_entry b o t else whole_entry false b o t).value ≡ rest_of t)
+unfolding entry_merged when◌then◌else◌ own_entry own_removed is_owner
+attendee_rest address key b o t = elim (is_own (Role.Attendee address) (first_key key)) as (λ c. rest_of (when c then own_entry b o t else whole_entry false b o t).value ≡ rest_of t)
     [ true ↦ own b o t | false ↦ ap rest_of (whole_kept b o t) ]
   where
     own : (b o t : Option Attendee) → rest_of (own_entry b o t).value ≡ rest_of t
@@ -153,8 +153,8 @@ unfolding whole_entry
 whole_echo owned b t = part_echo (option attendee_f) FieldValue.Attendee Field.Attendees _ owned b t
 
 pub entry_echo : (role : Role) (key : Text) (b t : Option Attendee) → entry_merged role key b b t ≡ t
-unfolding entry_merged if◌then◌else◌ own_entry own_removed own_standing rest with_participation
-entry_echo role key b t = elim (is_own role (first_key key)) as (λ c. (if c then own_entry b b t else whole_entry (is_owner role) b b t).value ≡ t)
+unfolding entry_merged when◌then◌else◌ own_entry own_removed own_standing rest with_participation
+entry_echo role key b t = elim (is_own role (first_key key)) as (λ c. (when c then own_entry b b t else whole_entry (is_owner role) b b t).value ≡ t)
     [ true ↦ own b t | false ↦ whole_echo (is_owner role) b t ]
   where
     back : (a : Attendee) → with_participation a.participation (rest a) ≡ a

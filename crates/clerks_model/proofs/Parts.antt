@@ -5,7 +5,7 @@ use mathlib.Core.Bool.{Bool, true, false, not, ◌||◌, true≢false}
 use Rattle.format.specs.Format.{Format}
 use Rattle.model.specs.Event.{Text, Attendee, Participation}
 use Rattle.model.specs.Parts.{Field, FieldValue}
-use Rattle.model.specs.Maps.{if◌then◌else◌, same_text}
+use Rattle.model.specs.Maps.{when◌then◌else◌, same_text}
 use Rattle.model.specs.Formats.{same, participation_f}
 use Rattle.model.specs.Merge.{Verdict, verdict, Merged, unreported, conflicting, refusing, merge_part, own_reply}
 use Rattle.model.proofs.Tables.{same_self, same_true}
@@ -35,7 +35,7 @@ module _ {A : Type 0} (f : Format A) where
   module _ (value : A → FieldValue) (field : Field) (attendee : Option Text) where
     -- by the three comparisons of the verdict
     abbrev by_verdict : (b o t : A) → (x y z : Bool) → A
-    by_verdict b o t x y z = (elim (if x then Verdict.Theirs else (if y then Verdict.Refused else (if z then Verdict.Ours else Verdict.Conflict))) as (λ v. Merged A) [
+    by_verdict b o t x y z = (elim (when x then Verdict.Theirs else (when y then Verdict.Refused else (when z then Verdict.Ours else Verdict.Conflict))) as (λ v. Merged A) [
       | Verdict.Theirs ↦ unreported t
       | Verdict.Ours ↦ unreported o
       | Verdict.Conflict ↦ conflicting field attendee (value b) (value o) (value t) t
@@ -43,7 +43,7 @@ module _ {A : Type 0} (f : Format A) where
     ]).value
 
     pub part_is : (owned : Bool) (b o t : A) → Part b o t (merge_part f value field attendee owned b o t).value
-    unfolding merge_part verdict if◌then◌else◌ unreported conflicting refusing
+    unfolding merge_part verdict when◌then◌else◌ unreported conflicting refusing
     part_is owned b o t = go (same f o b || same f o t) (not owned) (same f t b) refl
       where
         go : (x y z : Bool) → same f t b ≡ z → Part b o t (by_verdict b o t x y z)
@@ -54,7 +54,7 @@ module _ {A : Type 0} (f : Format A) where
 
     -- ours, where it is owned and theirs has the base's bytes
     pub part_owned : (b o t : A) → f.enc t ≡ f.enc b → f.enc (merge_part f value field attendee true b o t).value ≡ f.enc o
-    unfolding merge_part verdict if◌then◌else◌ unreported conflicting
+    unfolding merge_part verdict when◌then◌else◌ unreported conflicting
     part_owned b o t e = go (same f o b) refl (same f o t) refl (same f t b) (same_enc t b e)
       where
         go : (x : Bool) → same f o b ≡ x → (y : Bool) → same f o t ≡ y → (z : Bool) → z ≡ true → f.enc (by_verdict b o t (x || y) false z) ≡ f.enc o
@@ -65,7 +65,7 @@ module _ {A : Type 0} (f : Format A) where
 
     -- theirs, where ours is the base
     pub part_echo : (owned : Bool) (b t : A) → (merge_part f value field attendee owned b b t).value ≡ t
-    unfolding merge_part verdict if◌then◌else◌ unreported
+    unfolding merge_part verdict when◌then◌else◌ unreported
     part_echo owned b t = go (same f b b) (same_enc b b refl)
       where
         go : (x : Bool) → x ≡ true → by_verdict b b t (x || same f b t) (not owned) (same f t b) ≡ t

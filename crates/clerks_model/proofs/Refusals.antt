@@ -6,7 +6,7 @@ use mathlib.Core.Logic.{◌⊎◌, inl, inr}
 use mathlib.Core.Bool.{Bool, true, false, not, ◌&&◌}
 use mathlib.Core.Option.{Option, none, some}
 use Rattle.format.specs.Format.{whole_of}
-use Rattle.model.specs.Maps.{if◌then◌else◌}
+use Rattle.model.specs.Maps.{when◌then◌else◌}
 use Rattle.model.specs.Formats.{Bytes}
 use Rattle.clerks_model.specs.Frame.{Clerks, clerks_f}
 use Rattle.clerks_model.specs.Writes.{accepted}
@@ -21,16 +21,16 @@ module _ (frame : Bytes) where
   judged_is c h = ap answered h
 
   too_many_is : (c : Clerks) → all_apart c ≡ true → ((accepted c.event c.one c.two ≡ false) ⊎ (accepted c.event c.two c.one ≡ false)) → judged c ≡ Answer.Refused too_many
-  unfolding judged both_accepted if◌then◌else◌
+  unfolding judged both_accepted when◌then◌else◌
   too_many_is c a (inl e) = rw (a, e)
   too_many_is c a (inr e) = rw (a, e) (go (accepted c.event c.one c.two) _)
     where
-      go : (b : Bool) (x : Answer) → (if not (b && false) then Answer.Refused too_many else x) ≡ Answer.Refused too_many
+      go : (b : Bool) (x : Answer) → (when not (b && false) then Answer.Refused too_many else x) ≡ Answer.Refused too_many
       go true x = refl
       go false x = refl
 
   twice_is : (c : Clerks) → all_apart c ≡ false → judged c ≡ Answer.Refused address_twice
-  unfolding judged if◌then◌else◌
+  unfolding judged when◌then◌else◌
   twice_is c e = rw e
 
   no_frame_is : whole_of clerks_f frame ≡ none → two_clerks frame ≡ Answer.Refused no_frame
@@ -52,10 +52,10 @@ Coded (Answer.Refused n) = (0 < n) × (n < 100)
 Coded (Answer.Lines a b) = Unit {0}
 
 judged_coded : (c : Clerks) → Coded (judged c)
-unfolding judged if◌then◌else◌
+unfolding judged when◌then◌else◌
 judged_coded c = go (all_apart c) (both_accepted c) _ _
   where
-    go : (apart both : Bool) (a b : Bytes) → Coded (if not apart then Answer.Refused address_twice else (if not both then Answer.Refused too_many else Answer.Lines a b))
+    go : (apart both : Bool) (a b : Bytes) → Coded (when not apart then Answer.Refused address_twice else (when not both then Answer.Refused too_many else Answer.Lines a b))
     go false both a b = (omega arith, omega arith)
     go true false a b = (omega arith, omega arith)
     go true true a b = tt

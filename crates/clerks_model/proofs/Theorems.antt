@@ -1,7 +1,7 @@
 -- Change request 10/13: the theorems of specs/Claims.antt. Assumes nothing.
 use mathlib.Core.Path.{◌≡◌, refl, sym}
 use mathlib.Core.Bool.{Bool, true, false, not, ◌&&◌, true≢false}
-use Rattle.model.specs.Maps.{if◌then◌else◌}
+use Rattle.model.specs.Maps.{when◌then◌else◌}
 use Rattle.clerks_model.specs.Naming.{Named, named, may_change, saved_by}
 use Rattle.clerks_model.specs.Claims.{Names, first_can, second_can, nobody_can, NamedRightly, FirstOwnerForces, SecondOnlyWhereBaseStood, ClerksExact, UnitsProper, UnitsBounded, FirstWriteFew, RefusedInOrder}
 use Rattle.clerks_model.proofs.Standing as Standing
@@ -17,11 +17,11 @@ and_not true true e = absurd (true≢false (sym e))
 and_not false b e = absurd (true≢false (sym e))
 
 pub named_rightly : NamedRightly
-unfolding named if◌then◌else◌
+unfolding named when◌then◌else◌
 named_rightly e first second u ev p = go (may_change first e.fields u) refl (may_change second e.fields u && not (saved_by first e.fields u)) refl
   where
     go : (a : Bool) → may_change first e.fields u ≡ a → (b : Bool) → (may_change second e.fields u && not (saved_by first e.fields u)) ≡ b
-        → Names e first second u (if a then Named.First else (if b then Named.Second else Named.Nobody))
+        → Names e first second u (when a then Named.First else (when b then Named.Second else Named.Nobody))
     go true f b g = first_can (Forced.first_can e first second u ev f)
     go false f true g =
         let h = and_not (may_change second e.fields u) (saved_by first e.fields u) g in

@@ -9,7 +9,7 @@ use Rattle.format.proofs.FormatLaws.{option_law}
 use Rattle.format.proofs.WholeLaws.{enc_injective}
 use Rattle.model.specs.Event.{Text, Attendee, Participation, NormalizedEvent, ProviderEvent}
 use Rattle.model.specs.Parts.{Role, Field, FieldValue}
-use Rattle.model.specs.Maps.{if◌then◌else◌, by_name, by, same_text, is_some}
+use Rattle.model.specs.Maps.{when◌then◌else◌, by_name, by, same_text, is_some}
 use Rattle.model.specs.Formats.{attendee_f, participation_f}
 use Rattle.model.specs.Merge.{rest, with_participation, whole_entry, own_reply, own_standing, own_entry, to_ascii_lowercase, is_own, is_owner, merge}
 use Rattle.model.proofs.FormatsLaws.{attendee_f_law}
@@ -124,11 +124,11 @@ second_cannot e address mine u ev p h can = go (can x.v x.given x.differs)
 -- ---- the reply of the first, an attendee, keeps the rest of its own entry from an owner who writes second
 
 entry_named : (key : Text) (l : List Attendee) (a : Attendee) → entry key l ≡ some a → folded a ≡ key
-unfolding entry if◌then◌else◌
+unfolding entry when◌then◌else◌
 entry_named key [] a e = absurd (none-ne-some a e)
 entry_named key (x ∷ l) a e = go (same_text (folded x) key) refl (entry_named key l a) e
   where
-    go : (c : Bool) → same_text (folded x) key ≡ c → (entry key l ≡ some a → folded a ≡ key) → (if c then some x else entry key l) ≡ some a → folded a ≡ key
+    go : (c : Bool) → same_text (folded x) key ≡ c → (entry key l ≡ some a → folded a ≡ key) → (when c then some x else entry key l) ≡ some a → folded a ≡ key
     go true f ih e = ap folded (sym (some_inj.0 e)) ∙ same_true (folded x) key f
     go false f ih e = ih e
 
@@ -193,11 +193,11 @@ module _ (e : ProviderEvent) (address key : Text) (ev : Event e) (own : same_tex
   t = entry key answered.fields.attendees
 
   t_is : t ≡ (own_standing b replied b).value
-  unfolding t answered entry_merged is_own own_entry if◌then◌else◌
+  unfolding t answered entry_merged is_own own_entry when◌then◌else◌
   t_is = merge_entry e.fields reply e (Role.Attendee address) key reply_update.apart_addresses ev.apart_addresses
       ∙ ap (λ (x : Option Attendee). entry_merged (Role.Attendee address) key x (entry key reply.attendees) x) is_b
       ∙ ap (λ (y : Option Attendee). entry_merged (Role.Attendee address) key (some b) y (some b)) reply_entry
-      ∙ ap (λ (c : Bool). (if c then own_entry (some b) (some replied) (some b) else whole_entry (is_owner (Role.Attendee address)) (some b) (some replied) (some b)).value) own
+      ∙ ap (λ (c : Bool). (when c then own_entry (some b) (some replied) (some b) else whole_entry (is_owner (Role.Attendee address)) (some b) (some replied) (some b)).value) own
 
   t_ok : (option attendee_f).Ok t
   unfolding own_standing rest
@@ -217,7 +217,7 @@ module _ (e : ProviderEvent) (address key : Text) (ev : Event e) (own : same_tex
   t_stands v (moves h) = absurd (t_differs (enc_injective (option_law attendee_f_law) t (some b) t_ok (some_ok attendee_f b ok_b) (same_bytes (option attendee_f) t (some b) h)))
 
   rest_stands : rest_of (entry key (merge e.fields w answered Role.Owner).event.fields.attendees) ≡ rest_of (entry key e.fields.attendees)
-  unfolding entry_merged is_own is_owner if◌then◌else◌ whole_entry t
+  unfolding entry_merged is_own is_owner when◌then◌else◌ whole_entry t
   rest_stands = ap rest_of (merge_entry e.fields w answered Role.Owner key up.apart_addresses answered_apart
       ∙ ap (λ (x : Option Attendee). entry_merged Role.Owner key x (entry key w.attendees) t) is_b
       ∙ ap (λ (y : Option Attendee). entry_merged Role.Owner key (some b) y t) is-o

@@ -11,7 +11,7 @@ use Rattle.format.specs.Format.{All, option, via, ◌⊗◌, list, enum, ◌∣�
 use Rattle.format.proofs.WholeLaws.{enc_injective}
 use Rattle.model.specs.Event.{Attendee, AttendeeRole, Participation, EventStatus, Transparency, Visibility, NormalizedEvent}
 use Rattle.model.specs.Limits.{max_attendees, max_text}
-use Rattle.model.specs.Maps.{if◌then◌else◌, by_name, by, same_text, is_some}
+use Rattle.model.specs.Maps.{when◌then◌else◌, by_name, by, same_text, is_some}
 use Rattle.model.specs.Formats.{tag, short_text, organizer_f, attendee_f, attendee_role_f, participation_f, status_f, transparency_f, visibility_f, fields_f}
 use Rattle.model.specs.Merge.{rest, with_participation}
 use Rattle.model.proofs.FormatsLaws.{attendee_f_law}
@@ -137,7 +137,7 @@ unfolding replaced attendee_f via ◌⊗◌ attendee_role_f below
 optional_ok p a h = (h.0, (h.1.0, (lit< tt, (participation_ok p, h.1.1.1.1))))
 
 pub alone : (a x : Attendee) → folded x ≡ folded a → entry (folded a) (x ∷ []) ≡ some x
-unfolding entry if◌then◌else◌
+unfolding entry when◌then◌else◌
 alone a x e = rw (e, same_self (folded a)) refl
 
 pub alone_update : (x : Attendee) → attendee_f.Ok x → Update (plain (x ∷ []))

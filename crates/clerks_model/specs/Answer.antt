@@ -2,7 +2,7 @@
 use Rattle.std.specs.Prelude.{ℕ, ◌++◌, Bool, not, ◌&&◌}
 use Rattle.std.proofs.Math.Option.{Option, none, some}
 use Rattle.format.specs.Format.{whole_of}
-use Rattle.model.specs.Maps.{if◌then◌else◌, map}
+use Rattle.model.specs.Maps.{when◌then◌else◌, map}
 use Rattle.model.specs.Formats.{Bytes, event_f}
 use Rattle.clerks_model.specs.Frame.{Party, Clerks, clerks_f}
 use Rattle.clerks_model.specs.Units.{units}
@@ -57,8 +57,8 @@ both_accepted c = accepted c.event c.one c.two && accepted c.event c.two c.one
 
 unfoldable pub judged : Clerks → Answer
 judged c =
-    if not (all_apart c) then Answer.Refused address_twice
-    else (if not (both_accepted c) then Answer.Refused too_many
+    when not (all_apart c) then Answer.Refused address_twice
+    else (when not (both_accepted c) then Answer.Refused too_many
     else Answer.Lines (line c (party_one c) (party_two c)) (line c (party_two c) (party_one c)))
 
 unfoldable pub answered : Option Clerks → Answer

@@ -2,7 +2,7 @@
 use Rattle.std.specs.Prelude.{Bool, true, false, not, ◌&&◌, ◌||◌}
 use Rattle.model.specs.Event.{Text, NormalizedEvent}
 use Rattle.model.specs.Parts.{Role}
-use Rattle.model.specs.Maps.{if◌then◌else◌, same_text, is_some}
+use Rattle.model.specs.Maps.{when◌then◌else◌, same_text, is_some}
 use Rattle.model.specs.Merge.{to_ascii_lowercase, is_owner}
 use Rattle.clerks_model.specs.Units.{Unit, by_kind, entry}
 
@@ -43,6 +43,6 @@ pub data Named : Type 0 where
 -- by the order of their writes
 unfoldable pub named : (first second : Role) → NormalizedEvent → Unit → Named
 named first second e u =
-    if may_change first e u then Named.First
-    else (if may_change second e u && not (saved_by first e u) then Named.Second
+    when may_change first e u then Named.First
+    else (when may_change second e u && not (saved_by first e u) then Named.Second
     else Named.Nobody)

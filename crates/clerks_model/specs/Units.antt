@@ -4,7 +4,7 @@ use Rattle.std.proofs.Math.Option.{Option, none, some}
 use Rattle.format.specs.Format.{option}
 use Rattle.model.specs.Event.{Text, Attendee, NormalizedEvent}
 use Rattle.model.specs.Limits.{max_attendees}
-use Rattle.model.specs.Maps.{if◌then◌else◌, same_text, any}
+use Rattle.model.specs.Maps.{when◌then◌else◌, same_text, any}
 use Rattle.model.specs.Formats.{Bytes, tag, short_text, organizer_f, attendee_f, participation_f, status_f, transparency_f, visibility_f}
 use Rattle.model.specs.Merge.{rest, to_ascii_lowercase}
 use Rattle.clerks_model.specs.Frame.{Clerks}
@@ -44,7 +44,7 @@ folded a = to_ascii_lowercase a.address
 -- the entry with a folded address
 unfoldable pub entry : Text → List Attendee → Option Attendee
 entry address [] = none
-entry address (a ∷ l) = if same_text (folded a) address then some a else entry address l
+entry address (a ∷ l) = when same_text (folded a) address then some a else entry address l
 
 -- a unit's value: its bytes. `none` is the absence of an entry: a value of its rest, while its reply has no value then
 abbrev pub Value : Type 0
@@ -77,7 +77,7 @@ value Unit.Reminders e = some (tag.enc e.reminders)
 -- names of entries, and behind them those of a list's entries that are not among them
 unfoldable pub add_new : List Text → List Attendee → List Text
 add_new keys [] = keys
-add_new keys (a ∷ l) = add_new (if any (same_text (folded a)) keys then keys else keys ++ folded a ∷ []) l
+add_new keys (a ∷ l) = add_new (when any (same_text (folded a)) keys then keys else keys ++ folded a ∷ []) l
 
 -- the event's entries, then the new ones, each once, by party in frame order
 unfoldable pub entry_keys : Clerks → List Text

@@ -13,7 +13,7 @@ use Rattle.model.specs.Seam.{ResourceId}
 use Rattle.model.specs.Edits.{Timestamp, EditId}
 use Rattle.model.specs.Calls.{Notice, Effect}
 use Rattle.model.specs.State.{Pending, Queue, SyncState}
-use Rattle.model.specs.Maps.{if◌then◌else◌, filter, is_some_and}
+use Rattle.model.specs.Maps.{when◌then◌else◌, filter, is_some_and}
 use Rattle.model.specs.Machine.{Machine, Run, ok, ◌>>=◌, for_each, tell}
 use Rattle.model.specs.Sync.{due, ids_of, tell_expired, due_entries, kept_entries}
 use Rattle.state.specs.Contract.{Keeps, HasState, Reads, Edits}
@@ -70,11 +70,11 @@ unfolding is_some_and
 due_is r j at e H B E = sym (B.is H.state H.keeps ∙ ap (is_some_and (λ p. due at p.edit)) (sym (E.is H.state H.keeps)))
 
 one_told : (at : Timestamp) (e : Pending) (m : Machine) → due at e.edit ≡ true → tell_expired e m ≡ tell_due at (e ∷ []) m
-unfolding due_entries filter if◌then◌else◌ for_each
+unfolding due_entries filter when◌then◌else◌ for_each
 one_told at e m d = sym (rw d (runs.bind_ok (tell_expired e m)))
 
 one_left : (at : Timestamp) (e : Pending) (m : Machine) → due at e.edit ≡ false → ok m ≡ tell_due at (e ∷ []) m
-unfolding due_entries filter if◌then◌else◌ for_each
+unfolding due_entries filter when◌then◌else◌ for_each
 one_left at e m d = rw d
 
 module _ (r : ResourceId) (j : ℕ) (at : Timestamp) {w : List ℕ} {b : Bool} (H : HasState w) (B : Reads (λ s. is_some_and (λ p. due at p.edit) (nth j (queue r s))) w b) where
@@ -93,11 +93,11 @@ for_append f [] b m = refl
 for_append f (x ∷ a) b m = each.bind_same (f x m) (for_each f (a ++ b)) (λ n. for_each f a n >>= for_each f b) (for_append f a b) ∙ sym (each.bind_assoc (f x m) (for_each f a) (for_each f b))
 
 filter_append : {A : Type 0} (p : A → Bool) (a b : List A) → filter p (a ++ b) ≡ filter p a ++ filter p b
-unfolding filter if◌then◌else◌
+unfolding filter when◌then◌else◌
 filter_append p [] b = refl
 filter_append {A} p (x ∷ a) b = go (p x) (filter_append p a b)
   where
-    go : (c : Bool) → filter p (a ++ b) ≡ filter p a ++ filter p b → (if c then x ∷ filter p (a ++ b) else filter p (a ++ b)) ≡ (if c then x ∷ filter p a else filter p a) ++ filter p b
+    go : (c : Bool) → filter p (a ++ b) ≡ filter p a ++ filter p b → (when c then x ∷ filter p (a ++ b) else filter p (a ++ b)) ≡ (when c then x ∷ filter p a else filter p a) ++ filter p b
     go true e = ap (λ (l : List A). x ∷ l) e
     go false e = e
 
@@ -150,16 +150,16 @@ due_start at n l = let e : n - n ≡ 0 = omega arith in runs.is (tell_due at (ta
 -- ---- what is left
 
 kept_step : (at : Timestamp) (j : ℕ) (q : Queue) → j < length q → unless_due at j (kept_behind (suc j) at q) ≡ kept_behind j at q
-unfolding nth without is_some_and if◌then◌else◌ kept_entries filter
+unfolding nth without is_some_and when◌then◌else◌ kept_entries filter
 kept_step at j [] h = absurd (not-suc-le-zero h)
 kept_step at zero (p ∷ q) h = go (due at p.edit)
   where
-    go : (b : Bool) → (if b then kept_entries at q else p ∷ kept_entries at q) ≡ (if not b then p ∷ kept_entries at q else kept_entries at q)
+    go : (b : Bool) → (when b then kept_entries at q else p ∷ kept_entries at q) ≡ (when not b then p ∷ kept_entries at q else kept_entries at q)
     go true = refl
     go false = refl
 kept_step at (suc j) (p ∷ q) h = go (is_some_and (λ x. due at x.edit) (nth j (kept_behind (suc j) at q))) ∙ ap (λ (l : Queue). p ∷ l) (kept_step at j q (le_of_suc-le-suc h))
   where
-    go : (b : Bool) → (if b then without (suc j) (p ∷ kept_behind (suc j) at q) else p ∷ kept_behind (suc j) at q) ≡ p ∷ (if b then without j (kept_behind (suc j) at q) else kept_behind (suc j) at q)
+    go : (b : Bool) → (when b then without (suc j) (p ∷ kept_behind (suc j) at q) else p ∷ kept_behind (suc j) at q) ≡ p ∷ (when b then without j (kept_behind (suc j) at q) else kept_behind (suc j) at q)
     go true = refl
     go false = refl
 
@@ -188,14 +188,14 @@ same_queue r f {w} e = record {
 
 module _ (r : ResourceId) (j : ℕ) (at : Timestamp) {w : List ℕ} {b : Bool} (B : Reads (λ s. is_some_and (λ p. due at p.edit) (nth j (queue r s))) w b) where
   pub dropped : {w' : List ℕ} → b ≡ true → Edits (λ s. put_queue r (without j (queue r s)) s) w w' → Edits (λ s. put_queue r (unless_due at j (queue r s)) s) w w'
-  unfolding if◌then◌else◌
+  unfolding when◌then◌else◌
   dropped {w'} z E = record {
-    makes = λ s h. subst (λ (c : Bool). Keeps (put_queue r (if c then without j (queue r s) else queue r s) s) w') (sym z ∙ B.is s h) (E.makes s h);
+    makes = λ s h. subst (λ (c : Bool). Keeps (put_queue r (when c then without j (queue r s) else queue r s) s) w') (sym z ∙ B.is s h) (E.makes s h);
   }
 
   pub not_dropped : b ≡ false → Edits (λ s. put_queue r (unless_due at j (queue r s)) s) w w
-  unfolding if◌then◌else◌
-  not_dropped z = same_queue r (unless_due at j) (λ s h. ap (λ (c : Bool). if c then without j (queue r s) else queue r s) (sym (B.is s h) ∙ z))
+  unfolding when◌then◌else◌
+  not_dropped z = same_queue r (unless_due at j) (λ s h. ap (λ (c : Bool). when c then without j (queue r s) else queue r s) (sym (B.is s h) ∙ z))
 
 pub kept_start : (r : ResourceId) (at : Timestamp) (n : ℕ) {w : List ℕ} → Reads (λ s. length (queue r s)) w n → Edits (λ s. put_queue r (kept_behind n at (queue r s)) s) w w
 kept_start r at n N = same_queue r (kept_behind n at) (λ s h. kept_all at n (queue r s) (let e = N.is s h in omega arith))

@@ -8,7 +8,7 @@ use lib.ListN.{drop}
 use Rattle.model.specs.Seam.{ResourceId}
 use Rattle.model.specs.Edits.{Timestamp}
 use Rattle.model.specs.State.{Pending, Queue, Purpose, SyncState}
-use Rattle.model.specs.Maps.{if◌then◌else◌, any, filter, retain, is_some_and, values}
+use Rattle.model.specs.Maps.{when◌then◌else◌, any, filter, retain, is_some_and, values}
 use Rattle.model.specs.Formats.{same}
 use Rattle.model.specs.SavedForm.{purpose_f}
 use Rattle.model.specs.Machine.{Machine, Run, ok, ◌>>=◌, for_each, with_state, set_in_flight, set_now, set_queue}
@@ -65,15 +65,15 @@ abbrev falls_as : Timestamp → ResourceId → Queue → Machine → Bool
 falls_as at r q m = is_some_and (λ p. due at p.edit) (nth 0 q) && not (any (edit_writes r) (values m.state.in_flight))
 
 told_first : (at : Timestamp) (p : Pending) (q : Queue) → due at p.edit ≡ true → due_entries at (p ∷ q) ≡ p ∷ due_entries at q
-unfolding due_entries filter if◌then◌else◌
+unfolding due_entries filter when◌then◌else◌
 told_first at p q d = rw d
 
 kept_first : (at : Timestamp) (p : Pending) (q : Queue) → due at p.edit ≡ true → kept_entries at (p ∷ q) ≡ kept_entries at q
-unfolding kept_entries filter if◌then◌else◌
+unfolding kept_entries filter when◌then◌else◌
 kept_first at p q d = rw d
 
 falls_so : (at : Timestamp) (r : ResourceId) (m : Machine) (q : Queue) → falls_as at r q m ≡ true → fallen at r q m ≡ tick_queue at r q m
-unfolding tick_queue is_some_and nth in_flight_any if◌then◌else◌
+unfolding tick_queue is_some_and nth in_flight_any when◌then◌else◌
 falls_so at r m [] t = absurd (false≢true t)
 falls_so at r m (p ∷ q) t =
     let d : due at p.edit ≡ true = and_first (due at p.edit) (not (any (edit_writes r) (values m.state.in_flight))) t in
@@ -83,7 +83,7 @@ falls_so at r m (p ∷ q) t =
     (λ m. ap (start_edit r) (put_unread r (kept_entries at (p ∷ q)) m ∙ ap (λ (l : Queue). set_queue r l (drop_in_flight (edit_reads r) m)) (kept_first at p q d))))
 
 spared_so : (at : Timestamp) (r : ResourceId) (m : Machine) (q : Queue) → put_queue r q m.state ≡ m.state → falls_as at r q m ≡ false → spared at r q m ≡ tick_queue at r q m
-unfolding tick_queue is_some_and nth in_flight_any if◌then◌else◌ due_entries kept_entries filter for_each ◌>>=◌
+unfolding tick_queue is_some_and nth in_flight_any when◌then◌else◌ due_entries kept_entries filter for_each ◌>>=◌
 spared_so at r m [] o t = ap (λ (s : SyncState). ok (with_state s m)) o
 spared_so at r m (p ∷ q) o t =
     rw t (each.bind_same (for_each tell_expired (due_entries at q) m) _ (λ m. ok (set_queue r (p ∷ kept_entries at q) m)) (λ m. ap ok (sym (set_queue_is r (p ∷ kept_entries at q) m))))

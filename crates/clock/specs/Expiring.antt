@@ -3,7 +3,7 @@ use Rattle.std.specs.Prelude.{ℕ, ◌++◌, Bool, not, ◌&&◌, take, drop}
 use Rattle.model.specs.Seam.{ResourceId}
 use Rattle.model.specs.Edits.{Timestamp}
 use Rattle.model.specs.State.{Queue, SyncState}
-use Rattle.model.specs.Maps.{if◌then◌else◌, any, is_some_and, keys, values}
+use Rattle.model.specs.Maps.{when◌then◌else◌, any, is_some_and, keys, values}
 use Rattle.model.specs.Machine.{Machine, Run, for_each}
 use Rattle.model.specs.Sync.{due, edit_writes, tell_expired, due_entries, kept_entries, tick_resource}
 use Rattle.waiting.specs.Queues.{queue, nth, without}
@@ -18,7 +18,7 @@ kept_behind n at q = take n q ++ kept_entries at (drop n q)
 
 -- a queue without its j-th entry, if that is due
 abbrev pub unless_due : Timestamp → ℕ → Queue → Queue
-unless_due at j q = if is_some_and (λ p. due at p.edit) (nth j q) then without j q else q
+unless_due at j q = when is_some_and (λ p. due at p.edit) (nth j q) then without j q else q
 
 -- whether the head is to go: not while its write is in flight
 abbrev pub head_falls : Timestamp → ResourceId → SyncState → Bool

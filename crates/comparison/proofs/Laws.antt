@@ -10,7 +10,7 @@ use lib.ListN.{length, get_or, take, drop, drop_of_length-le, length-drop}
 use lib.Seq.{drop-cons, take_all}
 use borrow.Author.Tests.{le-leb, lt-leb, eq-eqb, ne_eqb}
 use Rattle.format.specs.Format.{Format}
-use Rattle.model.specs.Maps.{if◌then◌else◌, by, by_name, same_text, map}
+use Rattle.model.specs.Maps.{when◌then◌else◌, by, by_name, same_text, map}
 use Rattle.model.specs.Formats.{same}
 use Rattle.model.specs.Merge.{Verdict, lower, to_ascii_lowercase, verdict}
 use Rattle.comparison.specs.Bytes.{same_folded, raw, span}
@@ -75,15 +75,15 @@ module _ (f : ℕ → ℕ) (a b : List ℕ) (i : ℕ) where
       go (y ∷ ys) e = sym (lt-leb (length b) i (let l = length-drop i b in let m : length (drop i b) ≡ suc (length ys) = ap length e in omega arith))
 
 pub lower_below : (b : ℕ) → b < 65 → b ≡ lower b
-unfolding lower if◌then◌else◌
+unfolding lower when◌then◌else◌
 lower_below b h = rw (lt-leb 65 b h)
 
 pub lower_above : (b : ℕ) → 65 ≤ b → 90 < b → b ≡ lower b
-unfolding lower if◌then◌else◌
+unfolding lower when◌then◌else◌
 lower_above b g h = rw (le-leb 65 b g, lt-leb b 90 h)
 
 pub lower_capital : (b : ℕ) → 65 ≤ b → b ≤ 90 → b + 32 ≡ lower b
-unfolding lower if◌then◌else◌
+unfolding lower when◌then◌else◌
 lower_capital b g h = rw (le-leb 65 b g, le-leb b 90 h)
 
 pub part_none : (s : List ℕ) (from to : ℕ) → to ≤ from → [] ≡ span s from to
@@ -101,23 +101,23 @@ part_rest s from to h =
 
 module _ (b o t : List ℕ) (owned : Bool) where
   pub verdict_base : same_text o b ≡ true → Verdict.Theirs ≡ verdict raw b o t owned
-  unfolding verdict same if◌then◌else◌
+  unfolding verdict same when◌then◌else◌
   verdict_base e = rw e
 
   pub verdict_theirs : same_text o b ≡ false → same_text o t ≡ true → Verdict.Theirs ≡ verdict raw b o t owned
-  unfolding verdict same if◌then◌else◌
+  unfolding verdict same when◌then◌else◌
   verdict_theirs e f = rw (e, f)
 
   pub verdict_refused : same_text o b ≡ false → same_text o t ≡ false → not owned ≡ true → Verdict.Refused ≡ verdict raw b o t owned
-  unfolding verdict same if◌then◌else◌
+  unfolding verdict same when◌then◌else◌
   verdict_refused e f g = rw (e, f, g)
 
   pub verdict_ours : same_text o b ≡ false → same_text o t ≡ false → not owned ≡ false → same_text t b ≡ true → Verdict.Ours ≡ verdict raw b o t owned
-  unfolding verdict same if◌then◌else◌
+  unfolding verdict same when◌then◌else◌
   verdict_ours e f g h = rw (e, f, g, h)
 
   pub verdict_conflict : same_text o b ≡ false → same_text o t ≡ false → not owned ≡ false → same_text t b ≡ false → Verdict.Conflict ≡ verdict raw b o t owned
-  unfolding verdict same if◌then◌else◌
+  unfolding verdict same when◌then◌else◌
   verdict_conflict e f g h = rw (e, f, g, h)
 
 -- values are judged by their bytes

@@ -1,33 +1,29 @@
 -- From what the functions promise to the model's `entry`. Assumes nothing.
-use Prim.Native.Nat.{ℕ, ◌+◌, ◌-◌, ◌≤◌, ◌<◌}
+use Prim.Native.Nat.{ℕ, ◌≤◌}
 use native.Mathlib.Omega.{arith}
 use mathlib.Core.Path.{◌≡◌, refl, sym, ap, ap₂, ◌∙◌, subst}
-use mathlib.Core.List.{List, [], ◌∷◌, ◌++◌}
+use mathlib.Core.List.{List, [], ◌++◌}
 use mathlib.Core.Option.{Option, none, some}
-use mathlib.Core.Bool.{Bool, true, false, false≢true}
+use mathlib.Core.Bool.{true, false}
 use lib.ListN.{length, take, drop}
 use lib.Seq.{length-take-le, take-take, take_at}
 use Rattle.format.specs.Format.{whole_of}
 use Rattle.spans.specs.Bytes.{zeros}
 use Rattle.model.specs.State.{SyncState}
-use Rattle.model.specs.Calls.{Input, Effect}
+use Rattle.model.specs.Calls.{Input}
 use Rattle.model.specs.Limits.{document01, max_effects}
-use Rattle.model.specs.Maps.{if◌then◌else◌}
+use Rattle.model.specs.Maps.{when◌then◌else◌}
 use Rattle.model.specs.Formats.{input_f, enc_effects}
 use Rattle.model.specs.Machine.{Machine, Run, match◌none:◌some:◌}
-use Rattle.model.specs.Sync.{Stepped, stepped, start, step, apply}
-use Rattle.model.specs.WellFormed.{WellFormed}
+use Rattle.model.specs.Sync.{stepped, start, step, apply}
 use Rattle.model.specs.Layout.{state_layout}
-use Rattle.model.specs.Entry.{Lent, lengths_right, read_state, decode, step_frame, step_bytes, leaves, answered, entry}
-use Rattle.model.specs.Entry as model
+use Rattle.model.specs.Entry.{lengths_right, read_state, decode, step_frame, step_bytes, leaves, answered, entry}
 use Rattle.model.proofs.Theorems.{accepted}
 use Rattle.frame.specs.declared.Input as parsed
 use Rattle.frame.specs.declared.Parsed.{Parsed}
 use Rattle.frame.specs.declared.Parsed.TheVariants.{Frame, NoFrame}
 use Rattle.frame.specs.Meaning.{meant_input, meant_parsed, reading_of}
 use Rattle.frame.proofs.Whole.{reading_none, reading_some}
-use Rattle.effects.specs.Sent.{Sent}
-use Rattle.state.specs.Layout.{layout}
 use Rattle.state.specs.Contract.{Keeps, HasState}
 use Rattle.layout.proofs.Bytes.{layout_is}
 use Rattle.wellformed.specs.IsState.{IsState}
@@ -122,25 +118,25 @@ as_long s w w₁ w' H l a b = H.keeps.long ∙ sym (b ∙ a ∙ l)
 module _ (s w o frame : List ℕ) where
   -- refusal 1
   pub wrong_lengths : (a : Answer) → a.code ≡ 1 → a.length ≡ 0 → false ≡ lengths_right document01 (lent s w o) → returned a s w o ≡ entry document01 (lent s w o) frame
-  unfolding entry if◌then◌else◌
+  unfolding entry when◌then◌else◌
   wrong_lengths a e h l = rw (← l, e, h)
 
   -- refusal 2
   pub no_state : (a : Answer) (w' o' : List ℕ) → true ≡ lengths_right document01 (lent s w o) → (IsState s → ⊥)
       → (a.code ≡ 2) × (a.length ≡ 0) × (w' ≡ zeros (length w)) × (o' ≡ zeros (length o)) → returned a s w' o' ≡ entry document01 (lent s w o) frame
-  unfolding entry step_bytes if◌then◌else◌ match◌none:◌some:◌ answered
+  unfolding entry step_bytes when◌then◌else◌ match◌none:◌some:◌ answered
   no_state a w' o' l n e = rw (← l, not_read s n) (refused_is a 2 s w o w' o' e.0 e.1 e.2 e.3)
 
   -- refusal 3
   pub no_frame : (a : Answer) (w' o' : List ℕ) → true ≡ lengths_right document01 (lent s w o) → IsState s → none ≡ whole_of input_f frame
       → (a.code ≡ 3) × (a.length ≡ 0) × (w' ≡ zeros (length w)) × (o' ≡ zeros (length o)) → returned a s w' o' ≡ entry document01 (lent s w o) frame
-  unfolding entry step_bytes if◌then◌else◌ match◌none:◌some:◌ decode step_frame answered
+  unfolding entry step_bytes when◌then◌else◌ match◌none:◌some:◌ decode step_frame answered
   no_frame a w' o' l I d e = rw (← l, read_of I, ← d) (refused_is a 3 s w o w' o' e.0 e.1 e.2 e.3)
 
   -- the frame is an input
   pub entered : (a : Answer) (i : Input) (s' w' o' : List ℕ) → true ≡ lengths_right document01 (lent s w o) → IsState s → some i ≡ whole_of input_f frame
       → Steps i s w o a s' w' o' → returned a s' w' o' ≡ entry document01 (lent s w o) frame
-  unfolding entry step_bytes if◌then◌else◌ match◌none:◌some:◌ decode step_frame
+  unfolding entry step_bytes when◌then◌else◌ match◌none:◌some:◌ decode step_frame
   entered a i s' w' o' l I d S = S.is I.state (keeps_of I) ∙ rw (← l, read_of I, ← d)
 
   -- what the frame was read as

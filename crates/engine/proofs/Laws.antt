@@ -1,8 +1,8 @@
 -- The endings of a call, in the words of the model's `entry`. Assumes nothing.
-use Prim.Native.Nat.{ℕ, ◌+◌, ◌-◌, ◌≤◌, ◌<◌}
+use Prim.Native.Nat.{ℕ, ◌-◌, ◌≤◌}
 use native.Mathlib.Omega.{arith}
-use mathlib.Core.Path.{◌≡◌, refl, sym, ap, ap₂, ◌∙◌, subst}
-use mathlib.Core.List.{List, [], ◌∷◌, ◌++◌, append-nil}
+use mathlib.Core.Path.{◌≡◌, ap, ◌∙◌, subst}
+use mathlib.Core.List.{List, [], ◌++◌, append-nil}
 use mathlib.Core.Bool.{Bool, true, false, ◌&&◌}
 use lib.ListN.{length, take, drop, drop_of_length-le, length-drop}
 use lib.Seq.{length-take-le}
@@ -12,8 +12,7 @@ use Rattle.spans.specs.Bytes.{zeros}
 use Rattle.spans.proofs.Laws.{tail_mid, tail_put}
 use Rattle.model.specs.Limits.{document01, max_effects}
 use Rattle.model.specs.Sizes.{buffer_length}
-use Rattle.model.specs.Entry.{Lent, lengths_right, leaves}
-use Rattle.model.specs.Entry as model
+use Rattle.model.specs.Entry.{lengths_right, leaves}
 use Rattle.model.proofs.Sizes.{document01_length}
 use Rattle.model.proofs.Tables.{and_left, and_right}
 use Rattle.machine.specs.declared.Progress.{Progress}

@@ -12,7 +12,7 @@ use Rattle.format.specs.Format.{zeros, All}
 use Rattle.model.specs.Calls.{Input, Effect}
 use Rattle.model.specs.State.{SyncState}
 use Rattle.model.specs.Limits.{document01}
-use Rattle.model.specs.Maps.{if◌then◌else◌}
+use Rattle.model.specs.Maps.{when◌then◌else◌}
 use Rattle.model.specs.Formats.{Bytes, input_f, effect_f, enc_effects}
 use Rattle.model.specs.Sync.{Stepped, step}
 use Rattle.model.specs.Layout.{state_layout}
@@ -67,7 +67,7 @@ module _ (c : Called) where
   -- the effects of the step are those of the model's call, and so valid
   call_is : (s : SyncState) (input : Input) (r : Stepped) → lengths_right document01 c.lent ≡ true → c.lent.state ≡ (state_layout document01).enc s → decode c.frame ≡ some input
       → step document01 s input ≡ r → call document01 s (plain c) ≡ r
-  unfolding call lend if◌then◌else◌ step_frame
+  unfolding call lend when◌then◌else◌ step_frame
   call_is s input r l b d h =
       let l' : lengths_right document01 (lend document01 s (plain c)) ≡ true =
       subst (λ (b : Bytes). lengths_right document01 (record { state = b; work = c.lent.work; out = c.lent.out }) ≡ true) b l in

@@ -1,26 +1,26 @@
 -- Calls of `step` meet the three demands, and refuse for no other reason. Assumes nothing.
 use mathlib.Core.Path.{◌≡◌, refl, sym, ap, ◌∙◌, subst}
 use mathlib.Core.List.{List, [], ◌∷◌}
-use mathlib.Core.Option.{Option, none, some}
+use mathlib.Core.Option.{some}
 use mathlib.Core.Bool.{Bool, true, false}
 use lib.Dec.{T}
 use Rattle.model.specs.Calls.{Input, Effect}
 use Rattle.model.specs.State.{SyncState}
 use Rattle.model.specs.Limits.{document01}
-use Rattle.model.specs.Maps.{if◌then◌else◌, map}
+use Rattle.model.specs.Maps.{when◌then◌else◌, map}
 use Rattle.model.specs.Formats.{Bytes, input_f}
 use Rattle.model.specs.Machine.{match◌none:◌some:◌}
 use Rattle.model.specs.Sync.{Stepped, step}
 use Rattle.model.specs.WellFormed.{WellFormed}
 use Rattle.model.specs.Layout.{state_layout}
 use Rattle.model.specs.Entry.{Lent, Returned, WellFormedBytes, lengths_right, read_state, decode, step_frame, step_bytes, leaves, answered, entry}
-use Rattle.model.specs.Demands.{Call, lend, call, state_after, after_calls, answer_of, bytes_after_calls, Codes}
+use Rattle.model.specs.Demands.{lend, call, state_after, after_calls, answer_of, bytes_after_calls, Codes}
 use Rattle.model.proofs.Theorems as model
 use Rattle.engine.specs.Demands.{Called, Demand1, NothingElse, Demand2, Linked, left, plain, Answers, Meets}
 
 entry_is : (lent : Lent) (frame : Bytes) (s : SyncState) (i : Input) (b : Bool) → T b → lengths_right document01 lent ≡ b → read_state document01 lent.state ≡ some s → decode frame ≡ some i
     → entry document01 lent frame ≡ answered document01 lent (step document01 s i)
-unfolding entry step_bytes if◌then◌else◌ match◌none:◌some:◌ step_frame
+unfolding entry step_bytes when◌then◌else◌ match◌none:◌some:◌ step_frame
 entry_is lent frame s i true t l e d = rw (l, e, d)
 entry_is lent frame s i false t l e d = absurd t
 

@@ -15,7 +15,7 @@ use Rattle.lines.proofs.Laws.{length_digits}
 use Rattle.model.specs.Seam.{RequestId, ResourceId}
 use Rattle.model.specs.State.{Map, Purpose, Queue, SyncState, new}
 use Rattle.model.specs.Limits.{document01, max_id, max_text, max_attendees}
-use Rattle.model.specs.Maps.{if◌then◌else◌, map, keys}
+use Rattle.model.specs.Maps.{when◌then◌else◌, map, keys}
 use Rattle.model.specs.Machine.{match◌none:◌some:◌}
 use Rattle.model.specs.Sizes.{id_bytes, text_bytes, organizer_bytes, attendee_bytes, fields_bytes, event_bytes, option_bytes}
 use Rattle.model.specs.Formats.{Bytes, resource_id, u64}
@@ -35,11 +35,11 @@ use Rattle.looks.specs.Look.{counted, seen, queue_f, seen_f, held_state, look_li
 -- ---- what is asked of a buffer
 
 pub answer_is : {A : Type 0} {f : SyncState → A} {missing : A} {b : Bytes} {code : ℕ} {r : A} → Answers f missing b code r → missing ≡ f new → r ≡ f (held_state b)
-unfolding asked held_state if◌then◌else◌ match◌none:◌some:◌
+unfolding asked held_state when◌then◌else◌ match◌none:◌some:◌
 answer_is {A} {f = f} {missing = missing} {b = b} {code = code} {r = r} R m = go (eqb (length b) state_length) refl (read_state document01 b) refl R.is
   where
     go : (e : Bool) → eqb (length b) state_length ≡ e → (o : Option SyncState) → read_state document01 b ≡ o
-        → ◌≡◌ {A = ℕ × A} (code, r) (if e then (match o none: (2, missing) some: (λ s. (0, f s))) else (1, missing)) → r ≡ f (match o none: new some: (λ s. s))
+        → ◌≡◌ {A = ℕ × A} (code, r) (when e then (match o none: (2, missing) some: (λ s. (0, f s))) else (1, missing)) → r ≡ f (match o none: new some: (λ s. s))
     go true e none o h = ap (λ (p : ℕ × A). p.1) h ∙ m
     go true e (some s) o h = ap (λ (p : ℕ × A). p.1) h
     go false e none o h = ap (λ (p : ℕ × A). p.1) h ∙ m

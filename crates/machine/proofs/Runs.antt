@@ -5,7 +5,7 @@ use mathlib.Core.Path.{◌≡◌, refl, sym, ◌∙◌, subst}
 use mathlib.Core.List.{List}
 use mathlib.Core.Bool.{Bool, true, false}
 use Rattle.model.specs.State.{SyncState}
-use Rattle.model.specs.Maps.{if◌then◌else◌}
+use Rattle.model.specs.Maps.{when◌then◌else◌}
 use Rattle.model.specs.Machine.{Machine, Run, refused, ok, ◌>>=◌, with_state}
 use Rattle.state.specs.Contract.{HasState, Reads, Edits}
 use Rattle.machine.specs.declared.Progress.{Progress}
@@ -61,19 +61,19 @@ reading {f = f} g {v} {w} {o} {w'} {o'} {p} {q} r d = record {
 
 -- a test of the state that came out true, and one that came out false
 pub taken : {b : SyncState → Bool} {f : Machine → Run} (g : Machine → Run) {v : Bool} {w o w' o' : List ℕ} {p q : Progress} → Reads b w v → v ≡ true → Does f w o p q w' o'
-    → Does (λ m. if b m.state then f m else g m) w o p q w' o'
-unfolding if◌then◌else◌
+    → Does (λ m. when b m.state then f m else g m) w o p q w' o'
+unfolding when◌then◌else◌
 taken {f = f} g {w' = w'} {o'} {q = q} r e d = record {
-  run = λ z m h. subst (λ x. Ran (if x then f m else g m) q w' o') (sym e ∙ r.is m.state h.keeps) (d.run z m h);
+  run = λ z m h. subst (λ x. Ran (when x then f m else g m) q w' o') (sym e ∙ r.is m.state h.keeps) (d.run z m h);
   stays = d.stays;
   state = d.state;
 }
 
 pub left : {b : SyncState → Bool} (f : Machine → Run) {g : Machine → Run} {v : Bool} {w o w' o' : List ℕ} {p q : Progress} → Reads b w v → v ≡ false → Does g w o p q w' o'
-    → Does (λ m. if b m.state then f m else g m) w o p q w' o'
-unfolding if◌then◌else◌
+    → Does (λ m. when b m.state then f m else g m) w o p q w' o'
+unfolding when◌then◌else◌
 left f {g} {w' = w'} {o'} {q = q} r e d = record {
-  run = λ z m h. subst (λ x. Ran (if x then f m else g m) q w' o') (sym e ∙ r.is m.state h.keeps) (d.run z m h);
+  run = λ z m h. subst (λ x. Ran (when x then f m else g m) q w' o') (sym e ∙ r.is m.state h.keeps) (d.run z m h);
   stays = d.stays;
   state = d.state;
 }

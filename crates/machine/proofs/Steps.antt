@@ -15,7 +15,7 @@ use Rattle.model.specs.Seam.{ResourceId}
 use Rattle.model.specs.Calls.{Effect}
 use Rattle.model.specs.State.{SyncState, Purpose, with_learned, with_in_flight, with_next_request}
 use Rattle.model.specs.Limits.{document01, max_id}
-use Rattle.model.specs.Maps.{if◌then◌else◌, by_name, by_number, insert, get, is_some_and}
+use Rattle.model.specs.Maps.{when◌then◌else◌, by_name, by_number, insert, get, is_some_and}
 use Rattle.model.specs.Machine.{Machine, Run, refused, ok, ◌>>=◌, with_state, within, push, request, set_learned, set_in_flight, set_next_request}
 use Rattle.model.specs.Sync.{learn}
 use Rattle.pens.specs.declared.Pen.{Pen}
@@ -94,10 +94,10 @@ attempts : {t : SyncState → Bool} {f : SyncState → SyncState} {w w' : List �
 attempts T = record { is = T.is; makes = T.makes; leaves = λ s h y. record { state = s; keeps = T.stays s h y } }
 
 module _ {t : SyncState → Bool} {f : SyncState → SyncState} {w w' : List ℕ} {b : Bool} (run : Machine → Run) (p : Progress) (T : Attempts t f w b w')
-    (same : (m : Machine) → m.limits ≡ document01 → Keeps m.state w → run m ≡ (if t m.state then ok (with_state (f m.state) m) else refused 5)) where
+    (same : (m : Machine) → m.limits ≡ document01 → Keeps m.state w → run m ≡ (when t m.state then ok (with_state (f m.state) m) else refused 5)) where
   ran_try : (o : List ℕ) (m : Machine) → Holds m w o p.at → p.code ≡ 0 → (c : Bool) → b ≡ c
-      → Ran (if c then ok (with_state (f m.state) m) else refused 5) (cond c p (refusal 5)) w' o
-  unfolding Ran if◌then◌else◌
+      → Ran (when c then ok (with_state (f m.state) m) else refused 5) (cond c p (refusal 5)) w' o
+  unfolding Ran when◌then◌else◌
   ran_try o m h z true k = (z, record { limits = h.limits; keeps = T.makes m.state h.keeps k; sent = h.sent })
   ran_try o m h z false k = (refl, λ z. omega arith)
 
@@ -109,8 +109,8 @@ module _ {t : SyncState → Bool} {f : SyncState → SyncState} {w w' : List ℕ
   attempted = record {
     does = λ o. record {
       run = λ z m h.
-          let e : run m ≡ (if b then ok (with_state (f m.state) m) else refused 5) =
-          same m h.limits h.keeps ∙ ap (λ (c : Bool). if c then ok (with_state (f m.state) m) else refused 5) (sym (T.is m.state h.keeps)) in
+          let e : run m ≡ (when b then ok (with_state (f m.state) m) else refused 5) =
+          same m h.limits h.keeps ∙ ap (λ (c : Bool). when c then ok (with_state (f m.state) m) else refused 5) (sym (T.is m.state h.keeps)) in
           subst (λ (r : Progress). Ran (run m) r w' o) (sym (going p (cond b p (refusal 5)) z))
           (subst (λ (x : Run). Ran x (cond b p (refusal 5)) w' o) (sym e) (ran_try o m h z b refl));
       stays = λ n. ap (λ (r : Progress). r.code) (stopped p (cond b p (refusal 5)) n);
@@ -119,7 +119,7 @@ module _ {t : SyncState → Bool} {f : SyncState → SyncState} {w w' : List ℕ
   }
 
 pub tries : {t : SyncState → Bool} {f : SyncState → SyncState} {w w' : List ℕ} {b : Bool} (run : Machine → Run) (p : Progress) → Tries t f w b w'
-    → ((m : Machine) → m.limits ≡ document01 → Keeps m.state w → run m ≡ (if t m.state then ok (with_state (f m.state) m) else refused 5))
+    → ((m : Machine) → m.limits ≡ document01 → Keeps m.state w → run m ≡ (when t m.state then ok (with_state (f m.state) m) else refused 5))
     → Changes run w p (tried_by p b) w'
 tries run p T same = attempted run p (attempts T) same
 
@@ -155,7 +155,7 @@ since id n e = rw e
 -- ---- request
 
 pub no_number : {w : List ℕ} (p : Progress) (purpose : Purpose) (n : ℕ) → Reads (λ s. s.next_request) w n → n ≡ 2 ^ 64 - 1 → Changes (reserve purpose) w p (unless p (refusal 4)) w
-unfolding reserve if◌then◌else◌ Ran
+unfolding reserve when◌then◌else◌ Ran
 no_number {w} p purpose n R e = record {
   does = λ o. record {
     run = λ z m h.
@@ -169,7 +169,7 @@ no_number {w} p purpose n R e = record {
 pub numbered : {w w₁ w₂ : List ℕ} {b : Bool} (p : Progress) (purpose : Purpose) (n : ℕ) → Reads (λ s. s.next_request) w n → (n ≡ 2 ^ 64 - 1 → ⊥) → Edits (with_next_request (n + 1)) w w₁
     → Tries (λ s. leb (length (insert by_number n purpose s.in_flight)) 24) (λ s. with_in_flight (insert by_number n purpose s.in_flight) s) w₁ b w₂
     → Changes (reserve purpose) w p (tried_by p b) w₂
-unfolding reserve within set_in_flight set_next_request document01 if◌then◌else◌
+unfolding reserve within set_in_flight set_next_request document01 when◌then◌else◌
 numbered p purpose n R ne E T = attempted (reserve purpose) p
     (record {
       is = λ s h. T.is (with_next_request (n + 1) s) (E.makes s h);
@@ -180,13 +180,13 @@ numbered p purpose n R ne E T = attempted (reserve purpose) p
 
 -- a number, and then the request's effect
 pub request_is : (purpose : Purpose) (what : Seam.Request) (m : Machine) → (reserve purpose m >>= push (Effect.Request m.state.next_request what)) ≡ request purpose what m
-unfolding reserve request if◌then◌else◌ ◌>>=◌ set_next_request push
+unfolding reserve request when◌then◌else◌ ◌>>=◌ set_next_request push
 request_is purpose what m = go (eqb m.state.next_request (2 ^ 64 - 1))
   where
     go : (b : Bool)
-        → ((if b then refused 4 else within m.limits.in_flight (insert by_number m.state.next_request purpose m.state.in_flight) set_in_flight (set_next_request (m.state.next_request + 1) m))
+        → ((when b then refused 4 else within m.limits.in_flight (insert by_number m.state.next_request purpose m.state.in_flight) set_in_flight (set_next_request (m.state.next_request + 1) m))
         >>= push (Effect.Request m.state.next_request what))
-        ≡ (if b then refused 4 else (within m.limits.in_flight (insert by_number m.state.next_request purpose m.state.in_flight) set_in_flight (set_next_request (m.state.next_request + 1) m)
+        ≡ (when b then refused 4 else (within m.limits.in_flight (insert by_number m.state.next_request purpose m.state.in_flight) set_in_flight (set_next_request (m.state.next_request + 1) m)
         >>= push (Effect.Request m.state.next_request what)))
     go true = refl
     go false = refl

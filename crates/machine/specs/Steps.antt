@@ -1,7 +1,7 @@
 -- What the smallest functions of the machine answer, and the definitions' `request` in two halves. Assumes nothing.
 use Rattle.std.specs.Prelude.{ℕ, ◌+◌, ◌-◌, ◌^◌, Bool, cond, eqb}
 use Rattle.model.specs.State.{Purpose}
-use Rattle.model.specs.Maps.{if◌then◌else◌, by_number, insert}
+use Rattle.model.specs.Maps.{when◌then◌else◌, by_number, insert}
 use Rattle.model.specs.Machine.{Machine, Run, refused, within, set_in_flight, set_next_request}
 use Rattle.pens.specs.declared.Pen.{Pen}
 use Rattle.machine.specs.declared.Progress.{Progress}
@@ -28,5 +28,5 @@ tried_by p within = unless p (cond within p (refusal 5))
 -- `request` up to its last line, the push
 unfoldable pub reserve : Purpose → Machine → Run
 reserve purpose m =
-    if eqb m.state.next_request (2 ^ 64 - 1) then refused 4
+    when eqb m.state.next_request (2 ^ 64 - 1) then refused 4
     else within m.limits.in_flight (insert by_number m.state.next_request purpose m.state.in_flight) set_in_flight (set_next_request (m.state.next_request + 1) m)

@@ -14,7 +14,7 @@ use Rattle.model.specs.Event.{Text, Participation, Attendee}
 use Rattle.model.specs.Parts as parts
 use Rattle.model.specs.Parts.{Field, FieldValue}
 use Rattle.model.specs.Shapes.{attendee_role_from, participation_from, kind_from}
-use Rattle.model.specs.Maps.{if◌then◌else◌, same_text}
+use Rattle.model.specs.Maps.{when◌then◌else◌, same_text}
 use Rattle.model.specs.Formats.{same, short_text, attendee_role_f, participation_f, kind_f, attendee_f, field_f, field_value_f, conflict_f, refused_f}
 use Rattle.model.specs.Merge.{Verdict, Merged, verdict, unreported, conflicting, refusing, merge_part, with_participation, rest, display_address, whole_entry, own_removed, own_reply, own_standing, own_entry}
 use Rattle.model.proofs.ValidParts.{none_ok, some_ok, ok_some}
@@ -220,7 +220,7 @@ reply_same a b = one_byte (participation_from a) (participation_from b)
 
 pub removed_items : (which : ℕ) (b o : Attendee) → attendee_f.Ok b → attendee_f.Ok o
     → entry_items which (judge_removed (attendee_f.enc b) (attendee_f.enc o)) (attendee_f.enc b) (attendee_f.enc o) [] ≡ items which one_item (own_removed b o)
-unfolding entry_items entry_value_items own_removed if◌then◌else◌ display_address
+unfolding entry_items entry_value_items own_removed when◌then◌else◌ display_address
 removed_items which b o p q = one_same which refl
     (rw (reply_enc b, reply_enc o, reply_same b.participation o.participation) (told (eqb (participation_from b.participation) (participation_from o.participation))))
     (rw (rest_enc b o) (turned (same attendee_f (rest b) (rest o))))
@@ -235,11 +235,11 @@ removed_items which b o p q = one_same which refl
     z = none_ok attendee_f
 
     told : (c : Bool) → cond (not c) (entry_conflict (attendee_f.enc b) (attendee_f.enc o) [] ∷ []) []
-        ≡ encs conflict_f.enc (if c then [] else conflict (some b) (some o) none ∷ [])
+        ≡ encs conflict_f.enc (when c then [] else conflict (some b) (some o) none ∷ [])
     told true = refl
     told false = ap (λ (t : List ℕ). t ∷ []) (conflict_enc (some b) (some o) none x y z)
 
-    turned : (c : Bool) → cond (not c) (entry_refused (attendee_f.enc b) (attendee_f.enc o) [] ∷ []) [] ≡ encs refused_f.enc (if c then [] else refusal (some b) (some o) none ∷ [])
+    turned : (c : Bool) → cond (not c) (entry_refused (attendee_f.enc b) (attendee_f.enc o) [] ∷ []) [] ≡ encs refused_f.enc (when c then [] else refusal (some b) (some o) none ∷ [])
     turned true = refl
     turned false = ap (λ (t : List ℕ). t ∷ []) (refused_enc (some b) (some o) none x y z)
 
@@ -250,10 +250,10 @@ value_with t n =
     (ap (λ (x : List ℕ). x ∷ []) (sym (enc_is (with_participation n t))))
 
 unowned : (b o t : Attendee) → verdict raw (attendee_f.enc b) (attendee_f.enc o) (attendee_f.enc t) false ≡ cond (same attendee_f o b || same attendee_f o t) Verdict.Theirs Verdict.Refused
-unfolding verdict same if◌then◌else◌
+unfolding verdict same when◌then◌else◌
 unowned b o t = go (same attendee_f o b || same attendee_f o t)
   where
-    go : (c : Bool) → (if c then Verdict.Theirs else Verdict.Refused) ≡ cond c Verdict.Theirs Verdict.Refused
+    go : (c : Bool) → (when c then Verdict.Theirs else Verdict.Refused) ≡ cond c Verdict.Theirs Verdict.Refused
     go true = refl
     go false = refl
 
@@ -345,7 +345,7 @@ own_items which (some b) (some o) (some t) p q r = rw (not_empty b, not_empty o,
 -- an entry, own or not: what the code judges and writes is what the definitions say
 pub entry_items_lem : (which : ℕ) (own owner : Bool) (x y z : Option Attendee) → (option attendee_f).Ok x → (option attendee_f).Ok y → (option attendee_f).Ok z
     → entry_items which (judge_of own owner (entry_enc x) (entry_enc y) (entry_enc z)) (entry_enc x) (entry_enc y) (entry_enc z)
-    ≡ items which one_item (if own then own_entry x y z else whole_entry owner x y z)
-unfolding judge_of if◌then◌else◌
+    ≡ items which one_item (when own then own_entry x y z else whole_entry owner x y z)
+unfolding judge_of when◌then◌else◌
 entry_items_lem which true owner x y z p q r = own_items which x y z p q r
 entry_items_lem which false owner x y z p q r = whole_items which x y z p q r owner

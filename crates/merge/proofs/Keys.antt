@@ -9,7 +9,7 @@ use lib.Dec.{eqb}
 use lib.ListN.{length}
 use borrow.Author.Tests.{eq-eqb, ne_eqb, eqb-true, eqb-false}
 use Rattle.model.specs.Event.{Text, Attendee}
-use Rattle.model.specs.Maps.{if◌then◌else◌, same_text, filter}
+use Rattle.model.specs.Maps.{when◌then◌else◌, same_text, filter}
 use Rattle.model.specs.Merge.{to_ascii_lowercase, Key, same_key, Keyed, key_of, keyed_after, keyed, find}
 use Rattle.model.proofs.Tables.{same_true}
 use Rattle.attendees.specs.Entries.{one_if}
@@ -20,37 +20,37 @@ abbrev pub tally : Keyed → Text → ℕ
 tally out w = length (filter (λ e. same_text e.0.address w) out)
 
 pub tally_snoc : (w : Text) (out : Keyed) (e : Key × Attendee) → tally (out ++ e ∷ []) w ≡ tally out w + one_if (same_text e.0.address w)
-unfolding filter if◌then◌else◌
+unfolding filter when◌then◌else◌
 tally_snoc w [] e = go (same_text e.0.address w)
   where
-    go : (c : Bool) → length (if c then e ∷ [] else []) ≡ 0 + one_if c
+    go : (c : Bool) → length (when c then e ∷ [] else []) ≡ 0 + one_if c
     go true = refl
     go false = refl
 tally_snoc w (x ∷ out) e = go (same_text x.0.address w) (tally_snoc w out e)
   where
     go : (c : Bool) → tally (out ++ e ∷ []) w ≡ tally out w + one_if (same_text e.0.address w)
-        → length (if c then x ∷ filter (λ e. same_text e.0.address w) (out ++ e ∷ []) else filter (λ e. same_text e.0.address w) (out ++ e ∷ []))
-        ≡ length (if c then x ∷ filter (λ e. same_text e.0.address w) out else filter (λ e. same_text e.0.address w) out) + one_if (same_text e.0.address w)
+        → length (when c then x ∷ filter (λ e. same_text e.0.address w) (out ++ e ∷ []) else filter (λ e. same_text e.0.address w) (out ++ e ∷ []))
+        ≡ length (when c then x ∷ filter (λ e. same_text e.0.address w) out else filter (λ e. same_text e.0.address w) out) + one_if (same_text e.0.address w)
     go true ih = omega (arith, ih)
     go false ih = ih
 
 module _ (k : Key) where
-  find_snoc : (out : Keyed) (e : Key × Attendee) → find out k ≡ none → find (out ++ e ∷ []) k ≡ (if same_key e.0 k then some e.1 else none)
-  unfolding find if◌then◌else◌
+  find_snoc : (out : Keyed) (e : Key × Attendee) → find out k ≡ none → find (out ++ e ∷ []) k ≡ (when same_key e.0 k then some e.1 else none)
+  unfolding find when◌then◌else◌
   find_snoc [] e h = refl
   find_snoc (x ∷ out) e h = go (same_key x.0 k) h (find_snoc out e)
     where
-      go : (c : Bool) → (if c then some x.1 else find out k) ≡ none → (find out k ≡ none → find (out ++ e ∷ []) k ≡ (if same_key e.0 k then some e.1 else none))
-          → (if c then some x.1 else find (out ++ e ∷ []) k) ≡ (if same_key e.0 k then some e.1 else none)
+      go : (c : Bool) → (when c then some x.1 else find out k) ≡ none → (find out k ≡ none → find (out ++ e ∷ []) k ≡ (when same_key e.0 k then some e.1 else none))
+          → (when c then some x.1 else find (out ++ e ∷ []) k) ≡ (when same_key e.0 k then some e.1 else none)
       go true h ih = absurd (none-ne-some x.1 (sym h))
       go false h ih = ih h
 
   find_kept : (out : Keyed) (e : Key × Attendee) (a : Attendee) → find out k ≡ some a → find (out ++ e ∷ []) k ≡ some a
-  unfolding find if◌then◌else◌
+  unfolding find when◌then◌else◌
   find_kept [] e a h = absurd (none-ne-some a h)
   find_kept (x ∷ out) e a h = go (same_key x.0 k) h (find_kept out e a)
     where
-      go : (c : Bool) → (if c then some x.1 else find out k) ≡ some a → (find out k ≡ some a → find (out ++ e ∷ []) k ≡ some a) → (if c then some x.1 else find (out ++ e ∷ []) k) ≡ some a
+      go : (c : Bool) → (when c then some x.1 else find out k) ≡ some a → (find out k ≡ some a → find (out ++ e ∷ []) k ≡ some a) → (when c then some x.1 else find (out ++ e ∷ []) k) ≡ some a
       go true h ih = h
       go false h ih = ih h
 
@@ -64,7 +64,7 @@ module _ (k : Key) where
 
   find_after : (l : List Attendee) (out : Keyed) → find out k ≡ none → tally out k.address ≤ k.occurrence
       → find (keyed_after out l) k ≡ nth_in k.address (k.occurrence - tally out k.address) l
-  unfolding keyed_after key_of same_key if◌then◌else◌
+  unfolding keyed_after key_of same_key when◌then◌else◌
   find_after [] out h t = h
   find_after (a ∷ l) out h t =
       go (same_text (to_ascii_lowercase a.address) k.address) (eqb (k.occurrence - tally out k.address) 0) refl refl
@@ -77,7 +77,7 @@ module _ (k : Key) where
       go : (c d : Bool) → same_text (to_ascii_lowercase a.address) k.address ≡ c → eqb (k.occurrence - tally out k.address) 0 ≡ d
           → (find (out ++ (key_of out a, a) ∷ []) k ≡ none → tally (out ++ (key_of out a, a) ∷ []) k.address ≤ k.occurrence
           → find (keyed_after (out ++ (key_of out a, a) ∷ []) l) k ≡ nth_in k.address (k.occurrence - tally (out ++ (key_of out a, a) ∷ []) k.address) l)
-          → find (out ++ (key_of out a, a) ∷ []) k ≡ (if same_key (key_of out a) k then some a else none)
+          → find (out ++ (key_of out a, a) ∷ []) k ≡ (when same_key (key_of out a) k then some a else none)
           → tally (out ++ (key_of out a, a) ∷ []) k.address ≡ tally out k.address + one_if (same_text (to_ascii_lowercase a.address) k.address)
           → find (keyed_after (out ++ (key_of out a, a) ∷ []) l) k ≡ cond (c && d) (some a) (nth_in k.address (k.occurrence - tally out k.address - one_if c) l)
       go false d e f ih s u =

@@ -14,7 +14,7 @@ use Rattle.format.specs.Format.{list, option, All}
 use Rattle.model.specs.Event.{Text, AttendeeRole, Participation, ParticipantKind, Attendee}
 use Rattle.model.specs.Parts.{Role}
 use Rattle.model.specs.Limits.{max_attendees}
-use Rattle.model.specs.Maps.{if◌then◌else◌, map, filter, is_some}
+use Rattle.model.specs.Maps.{when◌then◌else◌, map, filter, is_some}
 use Rattle.model.specs.Formats.{attendee_f, conflict_f, refused_f}
 use Rattle.model.specs.Merge.{Merged, unreported, to_ascii_lowercase, Key, Keyed, key_of, keyed_after, keyed, find, is_own, is_owner, entry_at, extend, entries_at, key_order, merge_attendees}
 use Rattle.model.proofs.MergeKeys.{keys, keys_append, entries_keyed}
@@ -147,23 +147,23 @@ module _ (which : ℕ) {owner : Bool} {me : Text} {role : Role} (W : Writes owne
   new k = not (is_some (find (keyed t) k))
 
   filter_append : (x y : List Key) → filter new (x ++ y) ≡ filter new x ++ filter new y
-  unfolding filter if◌then◌else◌
+  unfolding filter when◌then◌else◌
   filter_append [] y = refl
   filter_append (k ∷ x) y = go (new k) (filter_append x y)
     where
-      go : (c : Bool) → filter new (x ++ y) ≡ filter new x ++ filter new y → (if c then k ∷ filter new (x ++ y) else filter new (x ++ y)) ≡ (if c then k ∷ filter new x else filter new x) ++ filter new y
+      go : (c : Bool) → filter new (x ++ y) ≡ filter new x ++ filter new y → (when c then k ∷ filter new (x ++ y) else filter new (x ++ y)) ≡ (when c then k ∷ filter new x else filter new x) ++ filter new y
       go true ih = ap (λ (r : List Key). k ∷ r) ih
       go false ih = ih
 
   our_key : (w : Text) (n : ℕ) (k : Key) → ◌≡◌ {A = Key} (record { address = to_ascii_lowercase w; occurrence = n }) k
       → our_key_items which owner me base ours theirs w n ≡ at_keys (filter new (k ∷ []))
-  unfolding our_key_items filter if◌then◌else◌ is_some
+  unfolding our_key_items filter when◌then◌else◌ is_some
   our_key w n k e =
       rw (found_is R w n) (ap (λ (j : Key). cond (ltb 0 (length (entry_enc (find (keyed t) j)))) [] (key_items which owner me base ours theirs w n)) e
       ∙ go (find (keyed t) k) (key_items_lem w n ∙ ap (λ (k : Key). at_key k) e))
     where
       go : (x : Option Attendee) → key_items which owner me base ours theirs w n ≡ at_key k
-          → cond (ltb 0 (length (entry_enc x))) [] (key_items which owner me base ours theirs w n) ≡ at_keys (if not (is_some x) then k ∷ [] else [])
+          → cond (ltb 0 (length (entry_enc x))) [] (key_items which owner me base ours theirs w n) ≡ at_keys (when not (is_some x) then k ∷ [] else [])
       go none ih = ih ∙ sym (append-nil (at_key k))
       go (some a) ih = rw (lt-ltb 0 (length (attendee_f.enc a)) (present a))
 

@@ -11,7 +11,7 @@ use Rattle.format.proofs.WholeLaws.{whole}
 use Rattle.model.specs.Calls.{Input}
 use Rattle.model.specs.State.{SyncState}
 use Rattle.model.specs.Limits.{Limits}
-use Rattle.model.specs.Maps.{if◌then◌else◌}
+use Rattle.model.specs.Maps.{when◌then◌else◌}
 use Rattle.model.specs.Formats.{Bytes, input_f}
 use Rattle.model.specs.Machine.{match◌none:◌some:◌}
 use Rattle.model.specs.Sync.{Stepped}
@@ -50,8 +50,8 @@ module _ (limits : Limits) (lent : Lent) (frame : Bytes) where
   kept_answer (Stepped.Refused n) h = refl
   kept_answer (Stepped.Done s out) h = absurd (h refl)
 
-  kept : (b : Bool) (r : Stepped) → Kept (if b then answered limits lent r else record { code = 1; length = 0; lent = lent })
-  unfolding if◌then◌else◌
+  kept : (b : Bool) (r : Stepped) → Kept (when b then answered limits lent r else record { code = 1; length = 0; lent = lent })
+  unfolding when◌then◌else◌
   kept true r h = kept_answer r h
   kept false r h = refl
 
@@ -67,8 +67,8 @@ module _ (limits : Limits) (lent : Lent) (frame : Bytes) where
   well_step s w (some input) e = step_well_formed limits s input w ((accepted frame input).0 e).0
 
   well : (b : Bool) (o : Option SyncState) → read_state limits lent.state ≡ o
-      → Well (if b then answered limits lent (match o none: Stepped.Refused 2 some: (λ s. step_frame limits s (decode frame))) else record { code = 1; length = 0; lent = lent })
-  unfolding if◌then◌else◌ match◌none:◌some:◌ answered leaves
+      → Well (when b then answered limits lent (match o none: Stepped.Refused 2 some: (λ s. step_frame limits s (decode frame))) else record { code = 1; length = 0; lent = lent })
+  unfolding when◌then◌else◌ match◌none:◌some:◌ answered leaves
   well true none e h = absurd (omega arith)
   well true (some s) e h =
       let p = (states_exact limits lent.state s).0 e in
@@ -89,9 +89,9 @@ module _ (limits : Limits) where
   untouched lent = record { code = 1; length = 0; lent = lent }
 
   one_of : (lent : Lent) (frame : Bytes) (s : SyncState) (b : Bool) (o : Option SyncState) → o ≡ some s
-      → (if b then answered limits lent (match o none: Stepped.Refused 2 some: (λ s. step_frame limits s (decode frame))) else untouched lent)
-      ≡ (if b then answered limits lent (if b then step_frame limits s (decode frame) else Stepped.Refused 1) else untouched lent)
-  unfolding if◌then◌else◌ match◌none:◌some:◌
+      → (when b then answered limits lent (match o none: Stepped.Refused 2 some: (λ s. step_frame limits s (decode frame))) else untouched lent)
+      ≡ (when b then answered limits lent (when b then step_frame limits s (decode frame) else Stepped.Refused 1) else untouched lent)
+  unfolding when◌then◌else◌ match◌none:◌some:◌
   one_of lent frame s true o e = rw e
   one_of lent frame s false o e = refl
 
@@ -103,9 +103,9 @@ module _ (limits : Limits) where
 
   -- what a call leaves in the state's buffer
   left : (lent : Lent) (s : SyncState) (b : Bool) (r : Stepped) → lent.state ≡ (state_layout limits).enc s
-      → (if b then answered limits lent (if b then r else Stepped.Refused 1) else untouched lent).lent.state
-      ≡ (state_layout limits).enc (state_after s (if b then r else Stepped.Refused 1))
-  unfolding if◌then◌else◌ answered leaves state_after
+      → (when b then answered limits lent (when b then r else Stepped.Refused 1) else untouched lent).lent.state
+      ≡ (state_layout limits).enc (state_after s (when b then r else Stepped.Refused 1))
+  unfolding when◌then◌else◌ answered leaves state_after
   left lent s true (Stepped.Refused n) e = e
   left lent s true (Stepped.Done s' out) e = refl
   left lent s false r e = e

@@ -14,7 +14,7 @@ use Rattle.format.proofs.SizeLaws.{Within, Exactly, exactly_within, padded_exact
 use Rattle.model.specs.Seam.{ResourceId}
 use Rattle.model.specs.State.{Map, Pending, Queue, SyncState}
 use Rattle.model.specs.Limits.{Limits, max_conflict_bytes, max_refused_bytes}
-use Rattle.model.specs.Maps.{if◌then◌else◌, by, by_name, same_text, is_empty, map, keys, values}
+use Rattle.model.specs.Maps.{when◌then◌else◌, by, by_name, same_text, is_empty, map, keys, values}
 use Rattle.model.specs.Machine.{sum}
 use Rattle.model.specs.Shapes.{pass_to, pass_from, state_to, state_from}
 use Rattle.model.specs.Formats.{resource_id, short_text, u64, event_f, list_from_f, operation_f, role_f, conflicts_f, refusals_f, edit_f}
@@ -65,11 +65,11 @@ entry_bytes_law limits =
 
 -- the entries of the queues of entries are these entries
 first_kept : (p : Pending) (m : Map ResourceId Queue) → entries_of (put_first p m) ≡ p ∷ entries_of m
-unfolding put_first entries_of if◌then◌else◌
+unfolding put_first entries_of when◌then◌else◌
 first_kept p [] = refl
 first_kept p (e ∷ m) = go (same_text p.edit.resource e.0)
   where
-    go : (b : Bool) → entries_of (if b then (e.0, p ∷ e.1) ∷ m else (p.edit.resource, p ∷ []) ∷ e ∷ m) ≡ p ∷ (e.1 ++ entries_of m)
+    go : (b : Bool) → entries_of (when b then (e.0, p ∷ e.1) ∷ m else (p.edit.resource, p ∷ []) ∷ e ∷ m) ≡ p ∷ (e.1 ++ entries_of m)
     go true = refl
     go false = refl
 
@@ -308,13 +308,13 @@ module _ (limits : Limits) where
   -- the queues of the entries of queues are these queues
   first_new : (r : ResourceId) (q : Queue) (m : Map ResourceId Queue) → T (rising by_name (keys ((r, q) ∷ m))) → (p : Pending) → p.edit.resource ≡ r
       → put_first p m ≡ (r, p ∷ []) ∷ m
-  unfolding put_first rising keys map same_text if◌then◌else◌
+  unfolding put_first rising keys map same_text when◌then◌else◌
   first_new r q [] t p e = ap (λ (x : ResourceId). (x, p ∷ []) ∷ []) e
   first_new r q (x ∷ m) t p e = rw (e, is_lt (by_name r x.0) (and_left (by (by_name r x.0) true false false) _ t))
 
   queue_back : (r : ResourceId) (q : Queue) (m : Map ResourceId Queue) (l : List Pending) → queues_of l ≡ m → T (not (is_empty q)) → T (all (entry_rules r) q)
       → ((p : Pending) → p.edit.resource ≡ r → put_first p m ≡ (r, p ∷ []) ∷ m) → queues_of (q ++ l) ≡ (r, q) ∷ m
-  unfolding is_empty all queues_of put_first if◌then◌else◌ same_text entry_rules
+  unfolding is_empty all queues_of put_first when◌then◌else◌ same_text entry_rules
   queue_back r [] m l e h t f = absurd h
   queue_back r (p ∷ []) m l e h t f = rw e (f p (same_is p.edit.resource r (every_at _ 0 (and_left (entry_rules r p) true t))))
   queue_back r (p ∷ (p' ∷ q)) m l e h t f =

@@ -15,7 +15,7 @@ use Rattle.model.specs.Edits.{Timestamp, Operation, Edit}
 use Rattle.model.specs.Calls.{Rejection, Notice}
 use Rattle.model.specs.State.{Map, Pending, Queue, Purpose}
 use Rattle.model.specs.Limits.{max_attendees}
-use Rattle.model.specs.Maps.{if◌then◌else◌}
+use Rattle.model.specs.Maps.{when◌then◌else◌}
 use Rattle.model.specs.Merge.{merge}
 use Rattle.model.specs.Machine.{Machine, Run, tell, request, queue_of, set_queue, set_edits, set_in_flight, set_now, set_aliases}
 use Rattle.model.specs.Sync.{ReadAnswer, answer, Coalesced, drop_in_flight, learn, doubt, observe_write, head, notify, end_head, start_head, start_queue, start_edit, finish_queue, finish, read_for_edit, change_head, fold_in, cancel, append, place, enqueue_live, enqueue, move_to, move_behind, remap, plan_update, plan, edit_read_found, edit_read_answered, on_edit_read, written, deleted, read_again, write_failed, on_edit_write, tell_expired, tick_queue, tick_resource, tick, restart_edit, resume}
@@ -82,10 +82,10 @@ module _ {R : ℕ → Type 0} {P : Machine → Type 0} (lively : Lively R P) whe
   creates r event m h = lively.sends _ _ m tt h
 
   read_for_edit_ends : (resource : ResourceId) (m : Machine) → P m → Ends R P (read_for_edit resource m)
-  unfolding read_for_edit if◌then◌else◌
+  unfolding read_for_edit when◌then◌else◌
   read_for_edit_ends resource m h = go (Rattle.model.specs.Sync.looks_up resource m)
     where
-      go : (b : Bool) → Ends R P (request (Purpose.EditRead resource) (if b then Request.Lookup resource else Request.Read resource) m)
+      go : (b : Bool) → Ends R P (request (Purpose.EditRead resource) (when b then Request.Lookup resource else Request.Read resource) m)
       go true = lively.sends _ _ m tt h
       go false = lively.sends _ _ m tt h
 

@@ -11,7 +11,7 @@ use Rattle.format.specs.Format.{Format, via, ◌⊗◌, below, option, list, con
 use Rattle.model.specs.Event.{Text, Tag, Attendee, Participation, NormalizedEvent, ProviderEvent}
 use Rattle.model.specs.Parts.{Role, Field, FieldValue}
 use Rattle.model.specs.Shapes.{participation_from}
-use Rattle.model.specs.Maps.{if◌then◌else◌, same_text, map, filter, is_some}
+use Rattle.model.specs.Maps.{when◌then◌else◌, same_text, map, filter, is_some}
 use Rattle.model.specs.Formats.{Bytes, tag, short_text, u32, organizer_f, attendee_role_f, participation_f, kind_f, attendee_f, status_f, transparency_f, visibility_f, fields_f, ids_f, event_f}
 use Rattle.model.specs.Merge.{unreported, merge_part, rest, with_participation, whole_entry, own_removed, own_reply, own_standing, own_entry, to_ascii_lowercase, Key, Keyed, same_key, key_of, keyed_after, keyed, find, is_own, is_owner, entry_at, entries_at, extend, key_order, merge_attendees, merge}
 use Rattle.model.specs.OwnAnswer.{own, but_reply, but_own, SameBut, end, equal_byte, any_byte, marked, entry_marks, entries_marks, fields_marks, own_marks, marks, NothingElseMarked, OnlyOwn, OnlyOwnAnswer}
@@ -62,18 +62,18 @@ own_none (some b) (some o) = refl
 module _ (address : Text) (b o t : Keyed) where
   entry_stands : (k : Key) (a : Attendee) → find t k ≡ some a → k.address ≡ to_ascii_lowercase a.address
       → Standing address a (entry_at (Role.Attendee address) b o t k).value
-  unfolding entry_at is_own is_owner if◌then◌else◌ own
+  unfolding entry_at is_own is_owner when◌then◌else◌ own
   entry_stands k a f g = rw f (go (same_text (to_ascii_lowercase address) k.address) refl)
     where
       go : (c : Bool) → same_text (to_ascii_lowercase address) k.address ≡ c
-          → Standing address a (if c then own_entry (find b k) (find o k) (some a) else whole_entry false (find b k) (find o k) (some a)).value
+          → Standing address a (when c then own_entry (find b k) (find o k) (some a) else whole_entry false (find b k) (find o k) (some a)).value
       go true e = own_stands address (find b k) (find o k) a (ap (same_text (to_ascii_lowercase address)) (sym g) ∙ e)
       go false e = itself address a _ (whole_theirs (find b k) (find o k) (some a))
 
   entry_none : (k : Key) → find t k ≡ none → (entry_at (Role.Attendee address) b o t k).value ≡ none
-  unfolding entry_at is_owner if◌then◌else◌
+  unfolding entry_at is_owner when◌then◌else◌
   entry_none k f = rw f (elim (is_own (Role.Attendee address) k) as
-      (λ c. (if c then own_entry (find b k) (find o k) none else whole_entry false (find b k) (find o k) none).value ≡ none)
+      (λ c. (when c then own_entry (find b k) (find o k) none else whole_entry false (find b k) (find o k) none).value ≡ none)
       [ true ↦ own_none (find b k) (find o k) | false ↦ whole_theirs (find b k) (find o k) none ])
 
   extended : (a : Attendee) (v : Option Attendee) (as' vs : List Attendee) → Standing address a v → AllStand address as' vs
@@ -84,13 +84,13 @@ module _ (address : Text) (b o t : Keyed) where
 
   -- the keys that only ours has give nothing
   extra : (ks : List Key) → (entries_at (Role.Attendee address) b o t (filter (λ key. not (is_some (find t key))) ks)).value ≡ []
-  unfolding filter if◌then◌else◌ entries_at unreported extend is_some
+  unfolding filter when◌then◌else◌ entries_at unreported extend is_some
   extra [] = refl
   extra (k ∷ ks) = go (find t k) refl (extra ks)
     where
       go : (f : Option Attendee) → find t k ≡ f → (entries_at (Role.Attendee address) b o t (filter (λ key. not (is_some (find t key))) ks)).value ≡ []
           → (entries_at (Role.Attendee address) b o t
-          (if not (is_some f) then k ∷ filter (λ key. not (is_some (find t key))) ks else filter (λ key. not (is_some (find t key))) ks)).value ≡ []
+          (when not (is_some f) then k ∷ filter (λ key. not (is_some (find t key))) ks else filter (λ key. not (is_some (find t key))) ks)).value ≡ []
       go (some a) f ih = ih
       go none f ih = rw (entry_none k f, ih) refl
 
@@ -99,12 +99,12 @@ no_sum n e = omega (arith, e)
 
 -- an entry is found by its key, where no entry before it has the same
 find_in : (pre : Keyed) (e : Key × Attendee) (l : Keyed) → hits e.0 (keys pre) ≡ 0 → find (pre ++ e ∷ l) e.0 ≡ some e.1
-unfolding find if◌then◌else◌ map
+unfolding find when◌then◌else◌ map
 find_in [] e l h = rw (same_key_self e.0) refl
 find_in (x ∷ pre) e l h = go (same_key x.0 e.0) refl (find_in pre e l)
   where
     go : (c : Bool) → same_key x.0 e.0 ≡ c → (hits e.0 (keys pre) ≡ 0 → find (pre ++ e ∷ l) e.0 ≡ some e.1)
-        → (if c then some x.1 else find (pre ++ e ∷ l) e.0) ≡ some e.1
+        → (when c then some x.1 else find (pre ++ e ∷ l) e.0) ≡ some e.1
     go false q ih = ih (omega (arith, h))
     go true q ih = absurd (no_sum (hits e.0 (keys pre)) (ap (λ (c : Bool). one_if c + hits e.0 (keys pre)) (sym (same_key_turned e.0 x.0 ∙ q)) ∙ h))
 
@@ -157,7 +157,7 @@ attendees_stand address b o t =
 
 module _ (address : Text) where
   same_but : {a v : Attendee} → Stands address a v → but_reply address v ≡ but_reply address a
-  unfolding but_reply own rest with_participation if◌then◌else◌
+  unfolding but_reply own rest with_participation when◌then◌else◌
   same_but whole = refl
   same_but (replied e p) = rw e refl
 
@@ -314,12 +314,12 @@ module _ (address : Text) where
       go false = unmarked (kind_f.enc a.kind)
 
   entries_marked : (l : List Attendee) → marks (entries_marks address l) ≡ length (filter (own address) l)
-  unfolding entries_marks marks filter if◌then◌else◌
+  unfolding entries_marks marks filter when◌then◌else◌
   entries_marked [] = refl
   entries_marked (a ∷ l) = marks_append (entry_marks address a) (entries_marks address l) ∙ go (own address a) (entry_marked a) (entries_marked l)
     where
       go : (c : Bool) → marks (entry_marks address a) ≡ one_if c → marks (entries_marks address l) ≡ length (filter (own address) l)
-          → marks (entry_marks address a) + marks (entries_marks address l) ≡ length (if c then a ∷ filter (own address) l else filter (own address) l)
+          → marks (entry_marks address a) + marks (entries_marks address l) ≡ length (when c then a ∷ filter (own address) l else filter (own address) l)
       go true e h = omega (arith, e, h)
       go false e h = omega (arith, e, h)
 

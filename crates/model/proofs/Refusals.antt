@@ -9,7 +9,7 @@ use mathlib.Core.Bool.{Bool, true, false}
 use Rattle.model.specs.Calls.{Input}
 use Rattle.model.specs.State.{SyncState}
 use Rattle.model.specs.Limits.{Limits}
-use Rattle.model.specs.Maps.{if◌then◌else◌}
+use Rattle.model.specs.Maps.{when◌then◌else◌}
 use Rattle.model.specs.Formats.{Bytes}
 use Rattle.model.specs.Machine.{Machine, Run, match◌none:◌some:◌}
 use Rattle.model.specs.Sync.{Stepped, stepped, step}
@@ -48,15 +48,15 @@ module _ (limits : Limits) (lent : Lent) (frame : Bytes) where
   coded_step s input (Stepped.Done s' out) l e d h = accepted l e d h
 
   coded : (b : Bool) (o : Option SyncState) (i : Option Input) → lengths_right limits lent ≡ b → read_state limits lent.state ≡ o → decode frame ≡ i
-      → Coded limits lent frame (if b then answered limits lent (match o none: Stepped.Refused 2 some: (λ s. step_frame limits s i)) else record { code = 1; length = 0; lent = lent }).code
-  unfolding if◌then◌else◌ match◌none:◌some:◌ step_frame answered leaves
+      → Coded limits lent frame (when b then answered limits lent (match o none: Stepped.Refused 2 some: (λ s. step_frame limits s i)) else record { code = 1; length = 0; lent = lent }).code
+  unfolding when◌then◌else◌ match◌none:◌some:◌ step_frame answered leaves
   coded true none i l e d = no_state l e
   coded true (some s) none l e d = no_input l e d
   coded true (some s) (some input) l e d = coded_step s input (step limits s input) l e d refl
   coded false o i l e d = wrong_length l
 
   code_only : (n : ℕ) → Coded limits lent frame n → (entry limits lent frame).code ≡ n
-  unfolding entry step_bytes if◌then◌else◌ match◌none:◌some:◌ step_frame answered leaves
+  unfolding entry step_bytes when◌then◌else◌ match◌none:◌some:◌ step_frame answered leaves
   code_only n (wrong_length l) = rw l
   code_only n (no_state l e) = rw (l, e)
   code_only n (no_input l e d) = rw (l, e, d)

@@ -6,7 +6,7 @@ use Rattle.format.specs.Format.{whole_of, zeros}
 use Rattle.model.specs.Calls.{Input}
 use Rattle.model.specs.State.{SyncState}
 use Rattle.model.specs.Limits.{Limits, max_effects}
-use Rattle.model.specs.Maps.{if◌then◌else◌}
+use Rattle.model.specs.Maps.{when◌then◌else◌}
 use Rattle.model.specs.Formats.{Bytes, input_f, enc_effects}
 use Rattle.model.specs.Sizes.{buffer_length}
 use Rattle.model.specs.WellFormed.{WellFormed}
@@ -76,5 +76,5 @@ step_bytes limits state frame =
 -- checks run 1, 2, 3; refusal 1 touches nothing
 unfoldable pub entry : Limits → Lent → Bytes → Returned
 entry limits lent frame =
-    if lengths_right limits lent then answered limits lent (step_bytes limits lent.state frame)
+    when lengths_right limits lent then answered limits lent (step_bytes limits lent.state frame)
     else record { code = 1; length = 0; lent = lent }

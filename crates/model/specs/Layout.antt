@@ -9,7 +9,7 @@ use Rattle.model.specs.Parts.{Role, Conflict, Refused}
 use Rattle.model.specs.Edits.{EditId, Timestamp, Operation}
 use Rattle.model.specs.State.{Map, Pass, Pending, Queue, SyncState}
 use Rattle.model.specs.Limits.{Limits, max_conflict_bytes, max_refused_bytes}
-use Rattle.model.specs.Maps.{if◌then◌else◌, same_text}
+use Rattle.model.specs.Maps.{when◌then◌else◌, same_text}
 use Rattle.model.specs.Shapes.{pass_to, pass_from, state_to, state_from}
 use Rattle.model.specs.Formats.{resource_id, short_text, u64, event_f, list_from_f, operation_f, role_f, conflicts_f, refusals_f}
 use Rattle.model.specs.SavedForm.{staged_f, purpose_f}
@@ -79,7 +79,7 @@ entries_of (e ∷ m) = e.1 ++ entries_of m
 unfoldable pub put_first : Pending → Map ResourceId Queue → Map ResourceId Queue
 put_first p [] = (p.edit.resource, p ∷ []) ∷ []
 put_first p (e ∷ m) =
-    if same_text p.edit.resource e.0 then (e.0, p ∷ e.1) ∷ m else (p.edit.resource, p ∷ []) ∷ e ∷ m
+    when same_text p.edit.resource e.0 then (e.0, p ∷ e.1) ∷ m else (p.edit.resource, p ∷ []) ∷ e ∷ m
 
 unfoldable pub queues_of : Vec Pending → Map ResourceId Queue
 queues_of [] = []

@@ -10,7 +10,7 @@ use Rattle.model.specs.Edits.{Operation}
 use Rattle.model.specs.Calls.{Input, Effect}
 use Rattle.model.specs.State.{Pending, Queue, Purpose, SyncState}
 use Rattle.model.specs.Limits.{Limits}
-use Rattle.model.specs.Maps.{if◌then◌else◌, by_name, by_number, same_text, map, filter, get}
+use Rattle.model.specs.Maps.{when◌then◌else◌, by_name, by_number, same_text, map, filter, get}
 use Rattle.model.specs.Formats.{Bytes, short_text, tag, u32, organizer_f, attendee_role_f, participation_f, kind_f, status_f, transparency_f, visibility_f, ids_f, event_f, input_f}
 use Rattle.model.specs.Merge.{rest, to_ascii_lowercase, merge}
 use Rattle.model.specs.Sync.{Stepped, step}
@@ -24,7 +24,7 @@ own address a = same_text (to_ascii_lowercase address) (to_ascii_lowercase a.add
 
 -- an entry, its reply left out where it is the writer's own
 unfoldable pub but_reply : Text → Attendee → Attendee
-but_reply address a = if own address a then rest a else a
+but_reply address a = when own address a then rest a else a
 
 -- an event, the reminders and these replies left out
 unfoldable pub but_own : Text → ProviderEvent → ProviderEvent

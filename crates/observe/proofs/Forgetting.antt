@@ -19,7 +19,7 @@ use Rattle.model.specs.Event.{Text}
 use Rattle.model.specs.Seam.{ResourceId}
 use Rattle.model.specs.State.{Map, Pass, Queue, SyncState}
 use Rattle.model.specs.Limits.{document01}
-use Rattle.model.specs.Maps.{if◌then◌else◌, by, by_name, any, first, get, remove, keys, values, retain, has, is_some, is_some_and}
+use Rattle.model.specs.Maps.{when◌then◌else◌, by, by_name, any, first, get, remove, keys, values, retain, has, is_some, is_some_and}
 use Rattle.model.specs.Formats.{resource_id}
 use Rattle.model.specs.WellFormed.{rising}
 use Rattle.model.specs.Machine.{Machine, match◌none:◌some:◌, with_state, set_learned, set_learned_all, set_aliases}
@@ -45,11 +45,11 @@ use Rattle.observe.specs.Forgetting.{learned_after, settled_before, settled, hel
 -- ---- the model's words
 
 pub forget_settled_is : (m : Machine) → with_state (settled m.state) m ≡ forget_settled m
-unfolding forget_settled forget_all forget_before set_learned set_learned_all retain match◌none:◌some:◌ if◌then◌else◌
+unfolding forget_settled forget_all forget_before set_learned set_learned_all retain match◌none:◌some:◌ when◌then◌else◌
 forget_settled_is m = go (first (keys m.state.in_flight))
   where
-    two : (n : ℕ) (b : Bool) → with_state (if b then with_learned_all 0 (learned_after n m.state) else learned_after n m.state) m
-        ≡ (if b then set_learned_all 0 (with_state (learned_after n m.state) m) else with_state (learned_after n m.state) m)
+    two : (n : ℕ) (b : Bool) → with_state (when b then with_learned_all 0 (learned_after n m.state) else learned_after n m.state) m
+        ≡ (when b then set_learned_all 0 (with_state (learned_after n m.state) m) else with_state (learned_after n m.state) m)
     two n true = refl
     two n false = refl
 
@@ -64,21 +64,21 @@ forget_aliases_is m = refl
 -- ---- forget_settled
 
 pub before_left : (n : ℕ) {w w₁ : List ℕ} {a : ℕ} → Edits (learned_after n) w w₁ → Reads (λ s. s.learned_all) w₁ a → n < a → Edits (settled_before n) w w₁
-unfolding if◌then◌else◌
+unfolding when◌then◌else◌
 before_left n {w} {w₁} {a} E R l = record {
   makes = λ s h.
       let k = E.makes s h in
       let z : leb s.learned_all n ≡ false = ap (λ (x : ℕ). leb x n) (sym (R.is (learned_after n s) k)) ∙ lt-leb a n l in
-      subst (λ (b : Bool). Keeps (if b then with_learned_all 0 (learned_after n s) else learned_after n s) w₁) (sym z) k;
+      subst (λ (b : Bool). Keeps (when b then with_learned_all 0 (learned_after n s) else learned_after n s) w₁) (sym z) k;
 }
 
 pub before_all : (n : ℕ) {w w₁ w₂ : List ℕ} {a : ℕ} → Edits (learned_after n) w w₁ → Reads (λ s. s.learned_all) w₁ a → a ≤ n → Edits (with_learned_all 0) w₁ w₂ → Edits (settled_before n) w w₂
-unfolding if◌then◌else◌
+unfolding when◌then◌else◌
 before_all n {w} {w₁} {w₂} {a} E R l F = record {
   makes = λ s h.
       let k = E.makes s h in
       let z : leb s.learned_all n ≡ true = ap (λ (x : ℕ). leb x n) (sym (R.is (learned_after n s) k)) ∙ le-leb a n l in
-      subst (λ (b : Bool). Keeps (if b then with_learned_all 0 (learned_after n s) else learned_after n s) w₂) (sym z) (F.makes (learned_after n s) k);
+      subst (λ (b : Bool). Keeps (when b then with_learned_all 0 (learned_after n s) else learned_after n s) w₂) (sym z) (F.makes (learned_after n s) k);
 }
 
 pub settled_none : {w w₁ w₂ : List ℕ} {r : Numbered} → Reads (λ s. first (keys s.in_flight)) w (number_in r) → r ≡ numbered.Nothing → Edits (with_learned []) w w₁ → Edits (with_learned_all 0) w₁ w₂ → Edits settled w w₂

@@ -13,7 +13,7 @@ use Rattle.model.specs.Event.{Text, ProviderEvent}
 use Rattle.model.specs.Seam.{ResourceId, resource_of}
 use Rattle.model.specs.State.{Pass, SyncState}
 use Rattle.model.specs.Limits.{document01}
-use Rattle.model.specs.Maps.{if◌then◌else◌, by_name, insert, remove, delete, is_some}
+use Rattle.model.specs.Maps.{when◌then◌else◌, by_name, insert, remove, delete, is_some}
 use Rattle.model.specs.Formats.{event_f}
 use Rattle.model.specs.Machine.{Machine, Run, ok, ◌>>=◌, match◌none:◌some:◌, within, with_state, change_pass, set_pass, set_records, with_staged, with_seen, unstage, unsee, see, watch}
 use Rattle.model.specs.Sync.{replaces, learn, put_record, remove_record, observe_event, observe_none, observe}
@@ -75,7 +75,7 @@ has_alone b E = record { event = E.event; stands = stands_alone E.event b E.ok E
 abbrev insert_record : ResourceId → ProviderEvent → Machine → Run
 insert_record r e m = within m.limits.records (insert by_name r e m.state.records) set_records m
 
-put_is : (r : ResourceId) (e : ProviderEvent) (m : Machine) → (if gives_way r e m.state then insert_record r e m else ok m) ≡ put_record r e m
+put_is : (r : ResourceId) (e : ProviderEvent) (m : Machine) → (when gives_way r e m.state then insert_record r e m else ok m) ≡ put_record r e m
 unfolding put_record
 put_is r e m = refl
 
@@ -110,8 +110,8 @@ unsee_is r m = change_is (λ pass. with_seen (delete r pass.seen) pass) m
 abbrev done_in : SyncState → Bool
 done_in s = is_some (pass_of s.pass).done
 
-marks_is : (r : ResourceId) (m : Machine) → (if done_in m.state then see r m else watch r m) ≡ see_or_watch r m
-marks_is r m = ap (λ (b : Bool). if b then see r m else watch r m) (pass_done_is m)
+marks_is : (r : ResourceId) (m : Machine) → (when done_in m.state then see r m else watch r m) ≡ see_or_watch r m
+marks_is r m = ap (λ (b : Bool). when b then see r m else watch r m) (pass_done_is m)
 
 pub marks_seen : (r : ResourceId) {w w' : List ℕ} {v : Bool} {p q : Progress} → Reads done_in w v → v ≡ true → Changes (see r) w p q w' → Changes (see_or_watch r) w p q w'
 marks_seen r R z C = record { does = λ o. runs.is (see_or_watch r) (marks_is r) (runs.taken (watch r) R z (C.does o)) }
@@ -119,8 +119,8 @@ marks_seen r R z C = record { does = λ o. runs.is (see_or_watch r) (marks_is r)
 pub marks_watched : (r : ResourceId) {w w' : List ℕ} {v : Bool} {p q : Progress} → Reads done_in w v → v ≡ false → Changes (watch r) w p q w' → Changes (see_or_watch r) w p q w'
 marks_watched r R z C = record { does = λ o. runs.is (see_or_watch r) (marks_is r) (runs.left (see r) R z (C.does o)) }
 
-watches_is : (r : ResourceId) (m : Machine) → (if done_in m.state then ok m else watch r m) ≡ watch_unless_done r m
-watches_is r m = ap (λ (b : Bool). if b then ok m else watch r m) (pass_done_is m)
+watches_is : (r : ResourceId) (m : Machine) → (when done_in m.state then ok m else watch r m) ≡ watch_unless_done r m
+watches_is r m = ap (λ (b : Bool). when b then ok m else watch r m) (pass_done_is m)
 
 pub watches_not : (r : ResourceId) {w : List ℕ} {v : Bool} (p : Progress) → Reads done_in w v → v ≡ true → Changes (watch_unless_done r) w p p w
 watches_not r p R z = record { does = λ o. runs.is (watch_unless_done r) (watches_is r) (runs.taken (watch r) R z runs.nothing) }

@@ -13,7 +13,7 @@ use Rattle.model.specs.Event.{Text}
 use Rattle.model.specs.Seam.{ResourceId, Request}
 use Rattle.model.specs.State.{Map, Staged, Pass, Purpose, SyncState}
 use Rattle.model.specs.Limits.{Limits, document01}
-use Rattle.model.specs.Maps.{if◌then◌else◌, by_name, any, filter, map, keys, values, retain, insert, add, is_some}
+use Rattle.model.specs.Maps.{when◌then◌else◌, by_name, any, filter, map, keys, values, retain, insert, add, is_some}
 use Rattle.model.specs.Formats.{same}
 use Rattle.model.specs.SavedForm.{purpose_f}
 use Rattle.model.specs.Machine.{Machine, Run, refused, ok, ◌>>=◌, for_each, match◌none:◌some:◌, within, request, with_state, in_pass, change_pass, set_pass, with_staged, with_seen, with_observed, stage, see, watch}
@@ -45,35 +45,35 @@ use Rattle.observe.proofs.Each as each
 -- ---- an insert into a table of the open pass
 
 tried_in_pass : (test : Pass → Bool) (f : Pass → Pass → Pass) (m : Machine) (o : Option Pass)
-    → (match o none: ok m some: (λ pass. if test pass then ok (match o none: m some: (λ q. set_pass (some (f pass q)) m)) else refused 5))
-    ≡ (if (match o none: true some: test) then ok (with_state (match o none: m.state some: (λ q. with_pass (some (f q q)) m.state)) m) else refused 5)
-unfolding match◌none:◌some:◌ if◌then◌else◌ set_pass
+    → (match o none: ok m some: (λ pass. when test pass then ok (match o none: m some: (λ q. set_pass (some (f pass q)) m)) else refused 5))
+    ≡ (when (match o none: true some: test) then ok (with_state (match o none: m.state some: (λ q. with_pass (some (f q q)) m.state)) m) else refused 5)
+unfolding match◌none:◌some:◌ when◌then◌else◌ set_pass
 tried_in_pass test f m none = refl
 tried_in_pass test f m (some p) = refl
 
-stage_is : (r : ResourceId) (v : Staged) (m : Machine) → m.limits ≡ document01 → stage r v m ≡ (if may_stage r v m.state then ok (with_state (with_stage r v m.state) m) else refused 5)
+stage_is : (r : ResourceId) (v : Staged) (m : Machine) → m.limits ≡ document01 → stage r v m ≡ (when may_stage r v m.state then ok (with_state (with_stage r v m.state) m) else refused 5)
 unfolding stage in_pass within change_pass pass_changed document01
 stage_is r v m l = tried_in_pass (λ p. leb (length (insert by_name r v p.staged)) m.limits.staged) (λ p q. with_staged (insert by_name r v p.staged) q) m m.state.pass
-    ∙ ap (λ (x : Limits). if (match m.state.pass none: true some: (λ p. leb (length (insert by_name r v p.staged)) x.staged)) then ok (with_state (with_stage r v m.state) m) else refused 5) l
+    ∙ ap (λ (x : Limits). when (match m.state.pass none: true some: (λ p. leb (length (insert by_name r v p.staged)) x.staged)) then ok (with_state (with_stage r v m.state) m) else refused 5) l
 
 pub staged_tries : {w w' : List ℕ} {b : Bool} (p : Progress) (r : ResourceId) (v : Staged) → Tries (may_stage r v) (with_stage r v) w b w' → Changes (stage r v) w p (tried_by p b) w'
 staged_tries p r v T = steps.tries (stage r v) p T (λ m l h. stage_is r v m l)
 
 see_is : (r : ResourceId) (m : Machine) → m.limits ≡ document01
-    → see r m ≡ (if (match m.state.pass none: true some: (λ p. leb (length (add r p.seen)) 32)) then ok (with_state (pass_changed (λ p. with_seen (add r p.seen) p) m.state) m) else refused 5)
+    → see r m ≡ (when (match m.state.pass none: true some: (λ p. leb (length (add r p.seen)) 32)) then ok (with_state (pass_changed (λ p. with_seen (add r p.seen) p) m.state) m) else refused 5)
 unfolding see in_pass within change_pass pass_changed document01
 see_is r m l = tried_in_pass (λ p. leb (length (add r p.seen)) m.limits.seen) (λ p q. with_seen (add r p.seen) q) m m.state.pass
-    ∙ ap (λ (x : Limits). if (match m.state.pass none: true some: (λ p. leb (length (add r p.seen)) x.seen)) then ok (with_state (pass_changed (λ p. with_seen (add r p.seen) p) m.state) m) else refused 5) l
+    ∙ ap (λ (x : Limits). when (match m.state.pass none: true some: (λ p. leb (length (add r p.seen)) x.seen)) then ok (with_state (pass_changed (λ p. with_seen (add r p.seen) p) m.state) m) else refused 5) l
 
 pub seen_tries : {w w' : List ℕ} {b : Bool} (p : Progress) (r : ResourceId)
     → Tries (λ s. match s.pass none: true some: (λ p. leb (length (add r p.seen)) 32)) (pass_changed (λ p. with_seen (add r p.seen) p)) w b w' → Changes (see r) w p (tried_by p b) w'
 seen_tries p r T = steps.tries (see r) p T (λ m l h. see_is r m l)
 
 watch_is : (r : ResourceId) (m : Machine) → m.limits ≡ document01
-    → watch r m ≡ (if (match m.state.pass none: true some: (λ p. leb (length (add r p.observed)) 16)) then ok (with_state (pass_changed (λ p. with_observed (add r p.observed) p) m.state) m) else refused 5)
+    → watch r m ≡ (when (match m.state.pass none: true some: (λ p. leb (length (add r p.observed)) 16)) then ok (with_state (pass_changed (λ p. with_observed (add r p.observed) p) m.state) m) else refused 5)
 unfolding watch in_pass within change_pass pass_changed document01
 watch_is r m l = tried_in_pass (λ p. leb (length (add r p.observed)) m.limits.observed) (λ p q. with_observed (add r p.observed) q) m m.state.pass
-    ∙ ap (λ (x : Limits). if (match m.state.pass none: true some: (λ p. leb (length (add r p.observed)) x.observed)) then ok (with_state (pass_changed (λ p. with_observed (add r p.observed) p) m.state) m) else refused 5) l
+    ∙ ap (λ (x : Limits). when (match m.state.pass none: true some: (λ p. leb (length (add r p.observed)) x.observed)) then ok (with_state (pass_changed (λ p. with_observed (add r p.observed) p) m.state) m) else refused 5) l
 
 pub watched_tries : {w w' : List ℕ} {b : Bool} (p : Progress) (r : ResourceId)
     → Tries (λ s. match s.pass none: true some: (λ p. leb (length (add r p.observed)) 16)) (pass_changed (λ p. with_observed (add r p.observed) p)) w b w' → Changes (watch r) w p (tried_by p b) w'
@@ -87,11 +87,11 @@ keys_append [] b = refl
 keys_append (e ∷ a) b = ap (λ (x : List Text). e.0 ∷ x) (keys_append a b)
 
 filter_append : (f : ResourceId × Staged → Bool) (a b : Map ResourceId Staged) → filter f (a ++ b) ≡ filter f a ++ filter f b
-unfolding filter if◌then◌else◌
+unfolding filter when◌then◌else◌
 filter_append f [] b = refl
 filter_append f (e ∷ a) b = go (f e) (filter_append f a b)
   where
-    go : (x : Bool) → filter f (a ++ b) ≡ filter f a ++ filter f b → (if x then e ∷ filter f (a ++ b) else filter f (a ++ b)) ≡ (if x then e ∷ filter f a else filter f a) ++ filter f b
+    go : (x : Bool) → filter f (a ++ b) ≡ filter f a ++ filter f b → (when x then e ∷ filter f (a ++ b) else filter f (a ++ b)) ≡ (when x then e ∷ filter f a else filter f a) ++ filter f b
     go true h = ap (λ (m : Map ResourceId Staged). e ∷ m) h
     go false h = h
 
@@ -100,9 +100,9 @@ last_of true r = r ∷ []
 last_of false r = []
 
 one_key : (f : ResourceId × Staged → Bool) (e : ResourceId × Staged) (b : Bool) → f e ≡ b → keys (filter f (e ∷ [])) ≡ last_of b e.0
-unfolding keys map filter last_of if◌then◌else◌
-one_key f e true z = ap (λ (x : Bool). keys (if x then e ∷ [] else [])) z
-one_key f e false z = ap (λ (x : Bool). keys (if x then e ∷ [] else [])) z
+unfolding keys map filter last_of when◌then◌else◌
+one_key f e true z = ap (λ (x : Bool). keys (when x then e ∷ [] else [])) z
+one_key f e false z = ap (λ (x : Bool). keys (when x then e ∷ [] else [])) z
 
 more : (i : ℕ) (s : SyncState) (b : Bool) → i < length (staged_of s) → to_read s (staged_at i s) ≡ b → unread_of (i + 1) s ≡ unread_of i s ++ last_of b (staged_at i s).0
 more i s b l z =
@@ -271,10 +271,10 @@ unfolding read_unread
 read_none m e = pass_none _ m e
 
 abbrev marked : ResourceId → Bool → Machine → Run
-marked r b m = (if b then stage r Staged.Unread m else watch r m) >>= read_unread
+marked r b m = (when b then stage r Staged.Unread m else watch r m) >>= read_unread
 
 doubt_in_pass_is : (r : ResourceId) (m : Machine) → marked r (is_some (pass_of m.state.pass).done) m ≡ in_pass (doubt_in_pass r) m
-unfolding doubt_in_pass pass_of no_pass is_some if◌then◌else◌ ◌>>=◌
+unfolding doubt_in_pass pass_of no_pass is_some when◌then◌else◌ ◌>>=◌
 doubt_in_pass_is r m = go m.state.pass refl
   where
     go : (o : Option Pass) → m.state.pass ≡ o → marked r (is_some (pass_of m.state.pass).done) m ≡ in_pass (doubt_in_pass r) m
@@ -284,33 +284,33 @@ doubt_in_pass_is r m = go m.state.pass refl
 module _ (r : ResourceId) {w o w₁ w₂ o₂ : List ℕ} {p q s : Progress} {v : Bool} (D : Reads (λ s. is_some (pass_of s.pass).done) w v) where
   pub doubt_done : v ≡ true → Changes (stage r Staged.Unread) w p q w₁ → Does read_unread w₁ o q s w₂ o₂ → Does (in_pass (doubt_in_pass r)) w o p s w₂ o₂
   doubt_done z C R = runs.is (in_pass (doubt_in_pass r)) (doubt_in_pass_is r)
-      (runs.next {f = λ m. if is_some (pass_of m.state.pass).done then stage r Staged.Unread m else watch r m} (runs.taken (watch r) D z (C.does o)) R)
+      (runs.next {f = λ m. when is_some (pass_of m.state.pass).done then stage r Staged.Unread m else watch r m} (runs.taken (watch r) D z (C.does o)) R)
 
   pub doubt_listing : v ≡ false → Changes (watch r) w p q w₁ → Does read_unread w₁ o q s w₂ o₂ → Does (in_pass (doubt_in_pass r)) w o p s w₂ o₂
   doubt_listing z C R = runs.is (in_pass (doubt_in_pass r)) (doubt_in_pass_is r)
-      (runs.next {f = λ m. if is_some (pass_of m.state.pass).done then stage r Staged.Unread m else watch r m} (runs.left (stage r Staged.Unread) D z (C.does o)) R)
+      (runs.next {f = λ m. when is_some (pass_of m.state.pass).done then stage r Staged.Unread m else watch r m} (runs.left (stage r Staged.Unread) D z (C.does o)) R)
 
 abbrev refreshing : ResourceId → SyncState → Bool
 refreshing r s = any (same purpose_f (Purpose.Refresh r)) (values s.in_flight)
 
 abbrev refresh : ResourceId → Machine → Run
-refresh r m = if refreshing r m.state then ok m else request (Purpose.Refresh r) (Request.Read r) m
+refresh r m = when refreshing r m.state then ok m else request (Purpose.Refresh r) (Request.Read r) m
 
 abbrev doubted : ResourceId → Machine → Run
-doubted r m = if is_some m.state.pass then in_pass (doubt_in_pass r) m else refresh r m
+doubted r m = when is_some m.state.pass then in_pass (doubt_in_pass r) m else refresh r m
 
 doubt_is : (r : ResourceId) (m : Machine) → (learn r m >>= doubted r) ≡ doubt r m
-unfolding doubt match◌none:◌some:◌ is_some if◌then◌else◌ in_flight_any
+unfolding doubt match◌none:◌some:◌ is_some when◌then◌else◌ in_flight_any
 doubt_is r m = each.bind_same (learn r m) (doubted r) _ (λ m. go m m.state.pass refl)
   where
     rest : Machine → Option Pass → Run
-    rest m o = match o none: (if in_flight_any (refreshes r) m then ok m else request (Purpose.Refresh r) (Request.Read r) m) some: (λ pass. doubt_in_pass r pass m)
+    rest m o = match o none: (when in_flight_any (refreshes r) m then ok m else request (Purpose.Refresh r) (Request.Read r) m) some: (λ pass. doubt_in_pass r pass m)
 
     go : (m : Machine) (o : Option Pass) → m.state.pass ≡ o → doubted r m ≡ rest m m.state.pass
-    go m none e = ap (λ (o : Option Pass). if is_some o then in_pass (doubt_in_pass r) m else refresh r m) e
-        ∙ ap (λ (b : Bool). if b then ok m else request (Purpose.Refresh r) (Request.Read r) m) (any_same (same purpose_f (Purpose.Refresh r)) (refreshes r) (bridge.refreshes_is r) (values m.state.in_flight))
+    go m none e = ap (λ (o : Option Pass). when is_some o then in_pass (doubt_in_pass r) m else refresh r m) e
+        ∙ ap (λ (b : Bool). when b then ok m else request (Purpose.Refresh r) (Request.Read r) m) (any_same (same purpose_f (Purpose.Refresh r)) (refreshes r) (bridge.refreshes_is r) (values m.state.in_flight))
         ∙ sym (ap (rest m) e)
-    go m (some p) e = ap (λ (o : Option Pass). if is_some o then in_pass (doubt_in_pass r) m else refresh r m) e ∙ pass_some (doubt_in_pass r) m p e ∙ sym (ap (rest m) e)
+    go m (some p) e = ap (λ (o : Option Pass). when is_some o then in_pass (doubt_in_pass r) m else refresh r m) e ∙ pass_some (doubt_in_pass r) m p e ∙ sym (ap (rest m) e)
 
 module _ (r : ResourceId) {w o w₁ w₂ o₂ : List ℕ} {p q s : Progress} {v : Bool} (L : Changes (learn r) w p q w₁) (O : Reads (λ s. is_some s.pass) w₁ v) where
   pub doubt_open : v ≡ true → Does (in_pass (doubt_in_pass r)) w₁ o q s w₂ o₂ → Does (doubt r) w o p s w₂ o₂

@@ -9,7 +9,7 @@ use Rattle.format.specs.Format.{option, via, enum, ◌∣◌}
 use Rattle.model.specs.Event.{ProviderEvent}
 use Rattle.model.specs.Seam.{ResourceId, RequestId}
 use Rattle.model.specs.State.{SyncState}
-use Rattle.model.specs.Maps.{if◌then◌else◌, by_name, get, is_some_and}
+use Rattle.model.specs.Maps.{when◌then◌else◌, by_name, get, is_some_and}
 use Rattle.model.specs.Formats.{event_f, outcome_f}
 use Rattle.model.specs.Machine.{Machine}
 use Rattle.model.specs.Sync.{doubtful, doubt, observe, ReadAnswer, answer_failed, answer, refresh_answered, on_refresh}
@@ -28,7 +28,7 @@ use Rattle.machine.proofs.Runs as runs
 abbrev pub doubts : RequestId → ResourceId → SyncState → Bool
 doubts id r s = ltb id s.learned_all || is_some_and (λ since. ltb id since) (get by_name r s.learned)
 
-found_is : (id : RequestId) (r : ResourceId) (event : Option ProviderEvent) (m : Machine) → (if doubts id r m.state then doubt r m else observe r event m) ≡ refresh_answered id r (ReadAnswer.Found event) m
+found_is : (id : RequestId) (r : ResourceId) (event : Option ProviderEvent) (m : Machine) → (when doubts id r m.state then doubt r m else observe r event m) ≡ refresh_answered id r (ReadAnswer.Found event) m
 unfolding refresh_answered doubtful
 found_is id r event m = refl
 

@@ -2,7 +2,7 @@
 use Rattle.std.specs.Prelude.{ℕ, ◌+◌, ◌≡◌, List, [], ◌∷◌, ◌++◌, Bool, true, false, ◌||◌, ◌⊎◌, length, leb, ltb}
 use Rattle.model.specs.Seam.{ResourceId, RequestId}
 use Rattle.model.specs.State.{Map, SyncState}
-use Rattle.model.specs.Maps.{if◌then◌else◌, by_name, any, filter, first, get, keys, values, has, is_some, is_some_and}
+use Rattle.model.specs.Maps.{when◌then◌else◌, by_name, any, filter, first, get, keys, values, has, is_some, is_some_and}
 use Rattle.model.specs.Machine.{match◌none:◌some:◌}
 use Rattle.model.specs.Sync.{asks_about}
 use Rattle.state.specs.Setters.{with_learned, with_learned_all, with_aliases}
@@ -13,7 +13,7 @@ abbrev pub learned_after : RequestId → SyncState → SyncState
 learned_after oldest s = with_learned (filter (λ e. ltb oldest e.1) s.learned) s
 
 abbrev pub settled_before : RequestId → SyncState → SyncState
-settled_before oldest s = if leb s.learned_all oldest then with_learned_all 0 (learned_after oldest s) else learned_after oldest s
+settled_before oldest s = when leb s.learned_all oldest then with_learned_all 0 (learned_after oldest s) else learned_after oldest s
 
 abbrev pub settled : SyncState → SyncState
 settled s = match first (keys s.in_flight) none: with_learned_all 0 (with_learned [] s) some: (λ oldest. settled_before oldest s)

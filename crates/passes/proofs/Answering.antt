@@ -8,7 +8,7 @@ use Rattle.format.specs.Format.{option, via, enum, ◌∣◌, ◌⊗◌}
 use Rattle.model.specs.Event.{ProviderEvent}
 use Rattle.model.specs.Seam.{RequestId, ResourceId, Next, Page, Failure, Outcome}
 use Rattle.model.specs.State.{Pass, SyncState}
-use Rattle.model.specs.Maps.{if◌then◌else◌, by_name, get, delete, is_some, is_some_and}
+use Rattle.model.specs.Maps.{when◌then◌else◌, by_name, get, delete, is_some, is_some_and}
 use Rattle.model.specs.Formats.{event_f, next_f, page_f, outcome_f}
 use Rattle.model.specs.Machine.{Machine, Run, ok, ◌>>=◌, for_each, match◌none:◌some:◌, in_pass, unwatch, with_observed}
 use Rattle.model.specs.Sync.{answer, answer_failed, is_unread, doubtful, doubt, observe, read_unread, list_change, after_page, on_page, restart_pass, abandon_pass, list_failed, list_answered, on_list, listed_unread, pass_read_found, pass_read_answered, on_pass_read}
@@ -50,11 +50,11 @@ paged {o = o} {w₁ = w₁} {w₂} {o₂} {q = q} {s} id page v C e A R =
 
 -- ---- where a pass is open
 
-in_pass_is : (body : Pass → Machine → Run) (m : Machine) → (if is_some m.state.pass then body (pass_of m.state.pass) m else ok m) ≡ in_pass body m
-unfolding in_pass match◌none:◌some:◌ is_some if◌then◌else◌ pass_of
+in_pass_is : (body : Pass → Machine → Run) (m : Machine) → (when is_some m.state.pass then body (pass_of m.state.pass) m else ok m) ≡ in_pass body m
+unfolding in_pass match◌none:◌some:◌ is_some when◌then◌else◌ pass_of
 in_pass_is body m = go m.state.pass
   where
-    go : (o : Option Pass) → (if is_some o then body (pass_of o) m else ok m) ≡ (match o none: ok m some: (λ pass. body pass m))
+    go : (o : Option Pass) → (when is_some o then body (pass_of o) m else ok m) ≡ (match o none: ok m some: (λ pass. body pass m))
     go none = refl
     go (some p) = refl
 
@@ -154,7 +154,7 @@ abbrev Unread : ResourceId → SyncState → Bool
 Unread r s = is_some_and is_unread (get by_name r (staged_of s))
 
 abbrev read_with : ResourceId → Option ProviderEvent → Bool → Machine → Run
-read_with r event listed m = observe r event m >>= (λ m. ok (if listed then unwatch r m else m))
+read_with r event listed m = observe r event m >>= (λ m. ok (when listed then unwatch r m else m))
 
 abbrev read_sure : ResourceId → Option ProviderEvent → Machine → Run
 read_sure r event m = read_with r event (listed_unread r m) m
@@ -172,13 +172,13 @@ module _ {w o : List ℕ} {p q : Progress} {v u : Bool} (id : RequestId) (r : Re
       (runs.left (doubt r) D e (runs.is (read_sure r event) (λ m. ap (λ (b : Bool). read_with r event b m) (listed_unread_is r m)) (runs.reading (read_with r event) L X)))
 
   pub read_listed : {w₁ w₂ : List ℕ} → Changes (observe r event) w p q w₁ → u ≡ true → Edits (pass_changed (λ p. with_observed (delete r p.observed) p)) w₁ w₂ → Does (pass_read_found id r event) w o p q w₂ o
-  unfolding if◌then◌else◌ unwatch
+  unfolding when◌then◌else◌ unwatch
   read_listed {w₂ = w₂} O k E =
       read_by (subst (λ (b : Bool). Does (read_with r event b) w o p q w₂ o) (sym k)
       (runs.next (O.does o) (runs.is (λ m. ok (unwatch r m)) (λ m. ap ok (changing.change_pass_is (λ pass. with_observed (delete r pass.observed) pass) m)) (runs.last_edit E))))
 
   pub read_unlisted : {w₁ : List ℕ} → Changes (observe r event) w p q w₁ → u ≡ false → Does (pass_read_found id r event) w o p q w₁ o
-  unfolding if◌then◌else◌
+  unfolding when◌then◌else◌
   read_unlisted {w₁} O k = read_by (subst (λ (b : Bool). Does (read_with r event b) w o p q w₁ o) (sym k) (runs.next (O.does o) runs.nothing))
 
 abbrev pub is_strange : Outcome → Bool

@@ -5,7 +5,7 @@ use mathlib.Core.List.{List}
 use mathlib.Core.Option.{Option, none, some}
 use mathlib.Core.Bool.{Bool, true, false}
 use Rattle.model.specs.State.{Pass, SyncState}
-use Rattle.model.specs.Maps.{if◌then◌else◌}
+use Rattle.model.specs.Maps.{when◌then◌else◌}
 use Rattle.model.specs.Machine.{Machine, Run, ok, ◌>>=◌, match◌none:◌some:◌, with_state, change_pass, set_pass}
 use Rattle.state.specs.Setters.{with_pass, pass_changed}
 use Rattle.state.specs.Contract.{Reads, Edits}
@@ -28,10 +28,10 @@ no_change = record { does = λ o. runs.nothing }
 pub on_reading : {A : Type 0} {f : SyncState → A} (g : A → Machine → Run) {v : A} {w w' : List ℕ} {p q : Progress} → Reads f w v → Changes (g v) w p q w' → Changes (λ m. g (f m.state) m) w p q w'
 on_reading g R C = record { does = λ o. runs.reading g R (C.does o) }
 
-pub if_true : {b : SyncState → Bool} {f : Machine → Run} (g : Machine → Run) {v : Bool} {w w' : List ℕ} {p q : Progress} → Reads b w v → v ≡ true → Changes f w p q w' → Changes (λ m. if b m.state then f m else g m) w p q w'
+pub if_true : {b : SyncState → Bool} {f : Machine → Run} (g : Machine → Run) {v : Bool} {w w' : List ℕ} {p q : Progress} → Reads b w v → v ≡ true → Changes f w p q w' → Changes (λ m. when b m.state then f m else g m) w p q w'
 if_true g R e C = record { does = λ o. runs.taken g R e (C.does o) }
 
-pub if_false : {b : SyncState → Bool} (f : Machine → Run) {g : Machine → Run} {v : Bool} {w w' : List ℕ} {p q : Progress} → Reads b w v → v ≡ false → Changes g w p q w' → Changes (λ m. if b m.state then f m else g m) w p q w'
+pub if_false : {b : SyncState → Bool} (f : Machine → Run) {g : Machine → Run} {v : Bool} {w w' : List ℕ} {p q : Progress} → Reads b w v → v ≡ false → Changes g w p q w' → Changes (λ m. when b m.state then f m else g m) w p q w'
 if_false f R e C = record { does = λ o. runs.left f R e (C.does o) }
 
 pub same_run : {f : Machine → Run} (g : Machine → Run) {w w' : List ℕ} {p q : Progress} → ((m : Machine) → f m ≡ g m) → Changes f w p q w' → Changes g w p q w'

@@ -12,7 +12,7 @@ use Rattle.model.specs.Event.{ProviderEvent}
 use Rattle.model.specs.Seam.{ResourceId}
 use Rattle.model.specs.State.{Map, Staged, Pass, SyncState}
 use Rattle.model.specs.Calls.{Effect, Notice}
-use Rattle.model.specs.Maps.{if◌then◌else◌, by_name, any, filter, has, get, insert, remove, values, retain, is_empty, is_some, is_some_and}
+use Rattle.model.specs.Maps.{when◌then◌else◌, by_name, any, filter, has, get, insert, remove, values, retain, is_empty, is_some, is_some_and}
 use Rattle.model.specs.Formats.{event_f}
 use Rattle.model.specs.Machine.{Machine, Run, refused, ok, ◌>>=◌, for_each, match◌none:◌some:◌, within, with_state, push, tell, in_pass, change_pass, set_records, set_cursor, set_pass, with_staged, with_observed, stage}
 use Rattle.model.specs.Sync.{is_unread, replaces, put_record, remove_record, read_unread, ready, apply_one, apply_staged, apply_pass, read_observed, try_commit}
@@ -90,13 +90,13 @@ module _ (w q : List ℕ) (i : ℕ) (k : StagedKind) (K : HasState w) (N : Reads
 -- ---- all entries: they leave the pass alone, whatever it is
 
 put_one : (r : ResourceId) (e : ProviderEvent) (o : Option Pass) (m : Machine) → put_record r e (set_pass o m) ≡ (put_record r e m >>= (λ n. ok (set_pass o n)))
-unfolding put_record within set_records set_pass if◌then◌else◌ ◌>>=◌
+unfolding put_record within set_records set_pass when◌then◌else◌ ◌>>=◌
 put_one r e o m = go (match get by_name r m.state.records none: true some: (λ held. replaces e held)) (leb (length (insert by_name r e m.state.records)) m.limits.records)
   where
     T : Map ResourceId ProviderEvent
     T = insert by_name r e m.state.records
 
-    go : (a b : Bool) → (if a then (if b then ok (set_records T (set_pass o m)) else refused 5) else ok (set_pass o m)) ≡ ((if a then (if b then ok (set_records T m) else refused 5) else ok m) >>= (λ n. ok (set_pass o n)))
+    go : (a b : Bool) → (when a then (when b then ok (set_records T (set_pass o m)) else refused 5) else ok (set_pass o m)) ≡ ((when a then (when b then ok (set_records T m) else refused 5) else ok m) >>= (λ n. ok (set_pass o n)))
     go true true = refl
     go true false = refl
     go false b = refl
@@ -144,15 +144,15 @@ apply_end W R h = walking.walk_end staged_of entry_default apply_staged W R h
 -- ---- what follows them
 
 pub keeps_seen : {w w' : List ℕ} {v : Bool} → Reads (λ s. (pass_of s.pass).full) w v → v ≡ true → Edits with_seen_records w w' → Edits seen_kept w w'
-unfolding seen_kept if◌then◌else◌
+unfolding seen_kept when◌then◌else◌
 keeps_seen {w' = w'} R e E = record {
-  makes = λ s h. subst (λ (b : Bool). Keeps (if b then with_seen_records s else s) w') (sym e ∙ R.is s h) (E.makes s h);
+  makes = λ s h. subst (λ (b : Bool). Keeps (when b then with_seen_records s else s) w') (sym e ∙ R.is s h) (E.makes s h);
 }
 
 pub keeps_all : {w : List ℕ} {v : Bool} → Reads (λ s. (pass_of s.pass).full) w v → v ≡ false → Edits seen_kept w w
-unfolding seen_kept if◌then◌else◌
+unfolding seen_kept when◌then◌else◌
 keeps_all {w} R e = record {
-  makes = λ s h. subst (λ (b : Bool). Keeps (if b then with_seen_records s else s) w) (sym e ∙ R.is s h) h;
+  makes = λ s h. subst (λ (b : Bool). Keeps (when b then with_seen_records s else s) w) (sym e ∙ R.is s h) h;
 }
 
 -- the code's order of the last lines: the cursor is taken before the pass is closed
@@ -163,15 +163,15 @@ abbrev finish : Machine → Run
 finish n = push (Effect.Notify Notice.Synced) (with_state (with_pass none (done_of (seen_kept n.state))) n)
 
 abbrev settle : Pass → Machine → Run
-settle pass m = tell Notice.Synced (set_cursor pass.done (if pass.full then set_records (retain (λ resource e. has resource pass.seen) m.state.records) m else m))
+settle pass m = tell Notice.Synced (set_cursor pass.done (when pass.full then set_records (retain (λ resource e. has resource pass.seen) m.state.records) m else m))
 
 finish_is : (o : Option Pass) (n : Machine) → finish (set_pass o n) ≡ settle (pass_of o) (set_pass none n)
-unfolding seen_kept set_pass set_cursor set_records tell retain if◌then◌else◌
+unfolding seen_kept set_pass set_cursor set_records tell retain when◌then◌else◌
 finish_is o n = go (pass_of o).full
   where
     go : (b : Bool)
-        → push (Effect.Notify Notice.Synced) (with_state (with_pass none (done_of (if b then with_seen_records (with_pass o n.state) else with_pass o n.state))) n)
-        ≡ push (Effect.Notify Notice.Synced) (set_cursor (pass_of o).done (if b then set_records (filter (λ e. has e.0 (pass_of o).seen) n.state.records) (set_pass none n) else set_pass none n))
+        → push (Effect.Notify Notice.Synced) (with_state (with_pass none (done_of (when b then with_seen_records (with_pass o n.state) else with_pass o n.state))) n)
+        ≡ push (Effect.Notify Notice.Synced) (set_cursor (pass_of o).done (when b then set_records (filter (λ e. has e.0 (pass_of o).seen) n.state.records) (set_pass none n) else set_pass none n))
     go true = refl
     go false = refl
 
@@ -201,7 +201,7 @@ abbrev at_pass : Option Pass → Machine → Machine
 at_pass o m = with_state (with_pass o m.state) m
 
 stage_in : (O : List ResourceId) (r : ResourceId) (m : Machine) → to_stage r (change_pass (with_observed O) m) ≡ (to_stage r m >>= (λ n. ok (change_pass (with_observed O) n)))
-unfolding stage in_pass within change_pass set_pass match◌none:◌some:◌ if◌then◌else◌ ◌>>=◌ with_observed with_staged
+unfolding stage in_pass within change_pass set_pass match◌none:◌some:◌ when◌then◌else◌ ◌>>=◌ with_observed with_staged
 stage_in O r m = go m.state.pass
   where
     go : (o : Option Pass) → to_stage r (change_pass (with_observed O) (at_pass o m)) ≡ (to_stage r (at_pass o m) >>= (λ n. ok (change_pass (with_observed O) n)))
@@ -209,8 +209,8 @@ stage_in O r m = go m.state.pass
     go (some p) = pick (leb (length (insert by_name r Staged.Unread p.staged)) m.limits.staged)
       where
         pick : (b : Bool)
-            → (if b then ok (at_pass (some (with_staged (insert by_name r Staged.Unread p.staged) (with_observed O p))) m) else refused 5)
-            ≡ ((if b then ok (at_pass (some (with_staged (insert by_name r Staged.Unread p.staged) p)) m) else refused 5) >>= (λ n. ok (change_pass (with_observed O) n)))
+            → (when b then ok (at_pass (some (with_staged (insert by_name r Staged.Unread p.staged) (with_observed O p))) m) else refused 5)
+            ≡ ((when b then ok (at_pass (some (with_staged (insert by_name r Staged.Unread p.staged) p)) m) else refused 5) >>= (λ n. ok (change_pass (with_observed O) n)))
         pick true = refl
         pick false = refl
 
@@ -227,7 +227,7 @@ abbrev pub Staging : List ℕ → Progress → List ℕ → Progress → ℕ →
 Staging = walking.Walking observed_of [] to_stage
 
 stage_leaves : (x : ResourceId) (m : Machine) → 0 < length (observed_of m.state) → walking.Leaves observed_of [] to_stage x m
-unfolding stage in_pass within change_pass set_pass match◌none:◌some:◌ if◌then◌else◌ ◌>>=◌ pass_of no_pass with_observed with_staged
+unfolding stage in_pass within change_pass set_pass match◌none:◌some:◌ when◌then◌else◌ ◌>>=◌ pass_of no_pass with_observed with_staged
 stage_leaves x m h = go m.state.pass h
   where
     go : (o : Option Pass) → 0 < length (pass_of o).observed → walking.Leaves observed_of [] to_stage x (at_pass o m)
@@ -239,8 +239,8 @@ stage_leaves x m h = go m.state.pass h
     }
       where
         pick : (b : Bool)
-            → (if b then ok (at_pass (some (with_staged (insert by_name x Staged.Unread p.staged) p)) m) else refused 5)
-            ≡ ((if b then ok (at_pass (some (with_staged (insert by_name x Staged.Unread p.staged) p)) m) else refused 5) >>= (λ n. ok (at_pass (some (with_observed p.observed (pass_of n.state.pass))) n)))
+            → (when b then ok (at_pass (some (with_staged (insert by_name x Staged.Unread p.staged) p)) m) else refused 5)
+            ≡ ((when b then ok (at_pass (some (with_staged (insert by_name x Staged.Unread p.staged) p)) m) else refused 5) >>= (λ n. ok (at_pass (some (with_observed p.observed (pass_of n.state.pass))) n)))
         pick true = refl
         pick false = refl
 
@@ -316,13 +316,13 @@ module _ {w o w' o' : List ℕ} {p q : Progress} {n : ℕ} (R : Reads (λ s. len
   unfolding commit_open
   reads_on e D = runs.is commit_open (λ m. refl) (runs.left {b = λ s. is_empty (observed_of s)} apply_open (record { is = λ s h. some_is (observed_of s) (λ z. e (R.is s h ∙ z)) }) refl D)
 
-tried_is : (m : Machine) → (if is_ready m.state then commit_open m else ok m) ≡ try_commit m
-unfolding is_ready commit_open apply_open read_open try_commit ready in_pass match◌none:◌some:◌ is_some is_some_and if◌then◌else◌ pass_of no_pass
+tried_is : (m : Machine) → (when is_ready m.state then commit_open m else ok m) ≡ try_commit m
+unfolding is_ready commit_open apply_open read_open try_commit ready in_pass match◌none:◌some:◌ is_some is_some_and when◌then◌else◌ pass_of no_pass
 tried_is m = go m.state.pass
   where
     go : (o : Option Pass)
-        → (if is_some (pass_of o).done && not (any is_unread (values (pass_of o).staged)) then (if is_empty (pass_of o).observed then apply_pass (pass_of o) m else read_observed (pass_of o) m) else ok m)
-        ≡ (if is_some_and (λ pass. is_some pass.done && not (any is_unread (values pass.staged))) o then (match o none: ok m some: (λ pass. if is_empty pass.observed then apply_pass pass m else read_observed pass m)) else ok m)
+        → (when is_some (pass_of o).done && not (any is_unread (values (pass_of o).staged)) then (when is_empty (pass_of o).observed then apply_pass (pass_of o) m else read_observed (pass_of o) m) else ok m)
+        ≡ (when is_some_and (λ pass. is_some pass.done && not (any is_unread (values pass.staged))) o then (match o none: ok m some: (λ pass. when is_empty pass.observed then apply_pass pass m else read_observed pass m)) else ok m)
     go none = refl
     go (some p) = refl
 

@@ -12,7 +12,7 @@ use Rattle.tables.specs.declared.Place.TheVariants.{Found, Missing}
 use Rattle.model.specs.Event.{Text, ProviderRevision, ProviderEvent}
 use Rattle.model.specs.Seam.{RequestId, ResourceId, Change}
 use Rattle.model.specs.State.{Staged, SyncState}
-use Rattle.model.specs.Maps.{if◌then◌else◌, by_name, remove, get, is_some_and}
+use Rattle.model.specs.Maps.{when◌then◌else◌, by_name, remove, get, is_some_and}
 use Rattle.model.specs.Formats.{same, resource_id, short_text, event_f, change_f}
 use Rattle.model.specs.Machine.{Machine, Run, ok, ◌>>=◌, with_staged, stage, unstage, see}
 use Rattle.model.specs.Sync.{learn, doubtful, holds, staged_of, list_change}
@@ -97,10 +97,10 @@ held_already {w} {w'} {p} r t rev n event R e E =
 -- ---- a change
 
 abbrev upsert_with : ResourceId → ProviderRevision → Option ProviderEvent → Bool → Machine → Run
-upsert_with r rev event doubted m = learn r m >>= (λ m. see r m >>= (λ m. if doubted then stage r Staged.Unread m else list_found r rev event m))
+upsert_with r rev event doubted m = learn r m >>= (λ m. see r m >>= (λ m. when doubted then stage r Staged.Unread m else list_found r rev event m))
 
 abbrev remove_with : ResourceId → Bool → Machine → Run
-remove_with r doubted m = learn r m >>= (λ m. stage r (if doubted then Staged.Unread else Staged.Removed) m)
+remove_with r doubted m = learn r m >>= (λ m. stage r (when doubted then Staged.Unread else Staged.Removed) m)
 
 module _ {w w₁ w₂ : List ℕ} {p q t : Progress} {v : Bool} (id : RequestId) (b : List ℕ) (r : ResourceId) (n : name_of b ≡ r) (D : Reads (doubts id (name_of b)) w v) (L : Changes (learn (name_of b)) w p q w₁) where
   module _ {w₃ : List ℕ} {s : Progress} (rev : ProviderRevision) (event : Option ProviderEvent) (S : Changes (see (name_of b)) w₁ q s w₂) where
@@ -109,24 +109,24 @@ module _ {w w₁ w₂ : List ℕ} {p q t : Progress} {v : Bool} (id : RequestId)
     upserted C = subst (λ (x : ResourceId). Changes (list_change id (Change.Upsert x rev event)) w p t w₃) n (changing.on_reading (upsert_with (name_of b) rev event) D C)
 
     pub upsert_doubted : v ≡ true → Changes (stage (name_of b) Staged.Unread) w₂ s t w₃ → Changes (list_change id (Change.Upsert r rev event)) w p t w₃
-    unfolding if◌then◌else◌
-    upsert_doubted e C = upserted (changing.and_then L (changing.and_then S (subst (λ (x : Bool). Changes (λ m. if x then stage (name_of b) Staged.Unread m else list_found (name_of b) rev event m) w₂ s t w₃) (sym e) C)))
+    unfolding when◌then◌else◌
+    upsert_doubted e C = upserted (changing.and_then L (changing.and_then S (subst (λ (x : Bool). Changes (λ m. when x then stage (name_of b) Staged.Unread m else list_found (name_of b) rev event m) w₂ s t w₃) (sym e) C)))
 
     pub upsert_found : v ≡ false → Changes (list_found (name_of b) rev event) w₂ s t w₃ → Changes (list_change id (Change.Upsert r rev event)) w p t w₃
-    unfolding if◌then◌else◌
-    upsert_found e C = upserted (changing.and_then L (changing.and_then S (subst (λ (x : Bool). Changes (λ m. if x then stage (name_of b) Staged.Unread m else list_found (name_of b) rev event m) w₂ s t w₃) (sym e) C)))
+    unfolding when◌then◌else◌
+    upsert_found e C = upserted (changing.and_then L (changing.and_then S (subst (λ (x : Bool). Changes (λ m. when x then stage (name_of b) Staged.Unread m else list_found (name_of b) rev event m) w₂ s t w₃) (sym e) C)))
 
   removed : Changes (remove_with (name_of b) v) w p t w₂ → Changes (list_change id (Change.Remove r)) w p t w₂
   unfolding list_change doubtful
   removed C = subst (λ (x : ResourceId). Changes (list_change id (Change.Remove x)) w p t w₂) n (changing.on_reading (remove_with (name_of b)) D C)
 
   pub remove_doubted : v ≡ true → Changes (stage (name_of b) Staged.Unread) w₁ q t w₂ → Changes (list_change id (Change.Remove r)) w p t w₂
-  unfolding if◌then◌else◌
-  remove_doubted e C = removed (changing.and_then L (subst (λ (x : Bool). Changes (stage (name_of b) (if x then Staged.Unread else Staged.Removed)) w₁ q t w₂) (sym e) C))
+  unfolding when◌then◌else◌
+  remove_doubted e C = removed (changing.and_then L (subst (λ (x : Bool). Changes (stage (name_of b) (when x then Staged.Unread else Staged.Removed)) w₁ q t w₂) (sym e) C))
 
   pub remove_sure : v ≡ false → Changes (stage (name_of b) Staged.Removed) w₁ q t w₂ → Changes (list_change id (Change.Remove r)) w p t w₂
-  unfolding if◌then◌else◌
-  remove_sure e C = removed (changing.and_then L (subst (λ (x : Bool). Changes (stage (name_of b) (if x then Staged.Unread else Staged.Removed)) w₁ q t w₂) (sym e) C))
+  unfolding when◌then◌else◌
+  remove_sure e C = removed (changing.and_then L (subst (λ (x : Bool). Changes (stage (name_of b) (when x then Staged.Unread else Staged.Removed)) w₁ q t w₂) (sym e) C))
 
 -- the parts of a valid change are valid
 pub upsert_ok : (s : List ℕ) (c : places.Change) (resource revision : TextPart) (event : ℕ) → c ≡ change.Upsert resource revision event → change_f.Ok (meant_change s c)

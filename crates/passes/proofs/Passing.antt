@@ -18,7 +18,7 @@ use Rattle.model.specs.State as model
 use Rattle.model.specs.State.{SyncState}
 use Rattle.model.specs.Calls.{Effect, Notice}
 use Rattle.model.specs.Limits.{max_text}
-use Rattle.model.specs.Maps.{if◌then◌else◌, by_number, insert, filter, retain}
+use Rattle.model.specs.Maps.{when◌then◌else◌, by_number, insert, filter, retain}
 use Rattle.model.specs.Formats.{short_text, next_f}
 use Rattle.model.specs.Machine.{Machine, Run, refused, ok, ◌>>=◌, within, with_state, push, tell, request, set_pass, set_cursor, set_in_flight, set_next_request, set_learned_all, with_from, with_done}
 use Rattle.model.specs.Sync.{describe, is_pass_read, is_of_pass, drop_in_flight, new_pass, start_pass, restart_pass, abandon_pass, pass_full, after_page}
@@ -78,13 +78,13 @@ abbrev push_from : ℕ → Machine → Run
 push_from id m = push (Effect.Request id (Request.List (pass_of m.state.pass).from)) m
 
 reserve_keeps : (id : ℕ) (m : Machine) → (reserve model.Purpose.List m >>= push_from id) ≡ (reserve model.Purpose.List m >>= push (Effect.Request id (Request.List (pass_of m.state.pass).from)))
-unfolding reserve within if◌then◌else◌ ◌>>=◌ set_in_flight set_next_request
+unfolding reserve within when◌then◌else◌ ◌>>=◌ set_in_flight set_next_request
 reserve_keeps id m = go (eqb m.state.next_request 18446744073709551615) (leb (length (insert by_number m.state.next_request model.Purpose.List m.state.in_flight)) m.limits.in_flight)
   where
     M : Machine
     M = set_in_flight (insert by_number m.state.next_request model.Purpose.List m.state.in_flight) (set_next_request (m.state.next_request + 1) m)
 
-    go : (a b : Bool) → ((if a then refused 4 else (if b then ok M else refused 5)) >>= push_from id) ≡ ((if a then refused 4 else (if b then ok M else refused 5)) >>= push (Effect.Request id (Request.List (pass_of m.state.pass).from)))
+    go : (a b : Bool) → ((when a then refused 4 else (when b then ok M else refused 5)) >>= push_from id) ≡ ((when a then refused 4 else (when b then ok M else refused 5)) >>= push (Effect.Request id (Request.List (pass_of m.state.pass).from)))
     go true b = refl
     go false true = refl
     go false false = refl
@@ -128,21 +128,21 @@ unfolding after_page
 more_of c E D = runs.is (after_page (Next.More c)) (λ m. ap (request model.Purpose.List (Request.List (ListFrom.Continue c))) (changing.change_pass_is (with_from (ListFrom.Continue c)) m)) (runs.edit E D)
 
 abbrev all_learned : Machine → Run
-all_learned m = ok (if pass_full m then set_learned_all m.state.next_request m else m)
+all_learned m = ok (when pass_full m then set_learned_all m.state.next_request m else m)
 
 module _ {w w₁ : List ℕ} {p : Progress} {v : Bool} (c : Text) (E : Edits (pass_changed (with_done (some c))) w w₁) (F : Reads (λ s. (pass_of s.pass).full) w₁ v) where
-  done_by : {w₂ : List ℕ} → Changes (λ m. if (pass_of m.state.pass).full then ok (with_state (with_learned_all m.state.next_request m.state) m) else ok m) w₁ p p w₂ → Changes (after_page (Next.Done c)) w p p w₂
-  unfolding after_page set_learned_all if◌then◌else◌
+  done_by : {w₂ : List ℕ} → Changes (λ m. when (pass_of m.state.pass).full then ok (with_state (with_learned_all m.state.next_request m.state) m) else ok m) w₁ p p w₂ → Changes (after_page (Next.Done c)) w p p w₂
+  unfolding after_page set_learned_all when◌then◌else◌
   done_by {w₂} C =
       changing.same_run (after_page (Next.Done c)) (λ m. ap all_learned (changing.change_pass_is (with_done (some c)) m))
       (changing.after_edit E (changing.same_run all_learned (λ m. go m (pass_full_is m)) C))
     where
-      pick : (b : Bool) (m n : Machine) → (if b then ok m else ok n) ≡ ok (if b then m else n)
+      pick : (b : Bool) (m n : Machine) → (when b then ok m else ok n) ≡ ok (when b then m else n)
       pick true m n = refl
       pick false m n = refl
 
-      go : (m : Machine) → (pass_of m.state.pass).full ≡ pass_full m → (if (pass_of m.state.pass).full then ok (with_state (with_learned_all m.state.next_request m.state) m) else ok m) ≡ all_learned m
-      go m e = ap (λ (b : Bool). if b then ok (with_state (with_learned_all m.state.next_request m.state) m) else ok m) e ∙ pick (pass_full m) (with_state (with_learned_all m.state.next_request m.state) m) m
+      go : (m : Machine) → (pass_of m.state.pass).full ≡ pass_full m → (when (pass_of m.state.pass).full then ok (with_state (with_learned_all m.state.next_request m.state) m) else ok m) ≡ all_learned m
+      go m e = ap (λ (b : Bool). when b then ok (with_state (with_learned_all m.state.next_request m.state) m) else ok m) e ∙ pick (pass_full m) (with_state (with_learned_all m.state.next_request m.state) m) m
 
   pub done_full : {w₂ : List ℕ} (n : ℕ) → v ≡ true → Reads (λ s. s.next_request) w₁ n → Edits (with_learned_all n) w₁ w₂ → Changes (after_page (Next.Done c)) w p p w₂
   done_full {w₂} n e N L = done_by (changing.if_true ok F e (changing.edits (record { makes = λ s h. subst (λ (k : ℕ). Keeps (with_learned_all k s) w₂) (N.is s h) (L.makes s h) })))

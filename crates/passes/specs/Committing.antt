@@ -1,7 +1,7 @@
 -- The parts of `try_commit` that the code has as functions of their own, each for the pass that is open. Assumes nothing.
 use Rattle.std.specs.Prelude.{ℕ, Bool, not, ◌&&◌}
 use Rattle.model.specs.State.{Staged, SyncState}
-use Rattle.model.specs.Maps.{if◌then◌else◌, any, is_empty, is_some, values}
+use Rattle.model.specs.Maps.{when◌then◌else◌, any, is_empty, is_some, values}
 use Rattle.model.specs.Machine.{Machine, Run, for_each, stage}
 use Rattle.model.specs.Sync.{is_unread, apply_staged, apply_pass, read_observed}
 use Rattle.state.specs.Layout.{pass_of}
@@ -18,7 +18,7 @@ apply_all m = for_each apply_staged (staging.staged_of m.state) m
 
 -- of a full pass, only the records that it has seen
 unfoldable pub seen_kept : SyncState → SyncState
-seen_kept s = if (pass_of s.pass).full then with_seen_records s else s
+seen_kept s = when (pass_of s.pass).full then with_seen_records s else s
 
 unfoldable pub apply_open : Machine → Run
 apply_open m = apply_pass (pass_of m.state.pass) m
@@ -34,4 +34,4 @@ unfoldable pub is_ready : SyncState → Bool
 is_ready s = is_some (pass_of s.pass).done && not (any is_unread (values (staging.staged_of s)))
 
 unfoldable pub commit_open : Machine → Run
-commit_open m = if is_empty (pass_of m.state.pass).observed then apply_open m else read_open m
+commit_open m = when is_empty (pass_of m.state.pass).observed then apply_open m else read_open m

@@ -3,7 +3,7 @@ use Rattle.std.proofs.Math.Option.{Option}
 use Rattle.model.specs.Event.{ProviderRevision, ProviderEvent}
 use Rattle.model.specs.Seam.{RequestId, ResourceId, Request, Failure, Outcome}
 use Rattle.model.specs.State.{Purpose}
-use Rattle.model.specs.Maps.{if◌then◌else◌}
+use Rattle.model.specs.Maps.{when◌then◌else◌}
 use Rattle.model.specs.Machine.{Machine, Run, ok, request, stage, unstage}
 use Rattle.model.specs.Sync.{holds, staged_of, list_failed, list_answered}
 use Rattle.state.specs.Layout.{pass_of}
@@ -11,7 +11,7 @@ use Rattle.state.specs.Layout.{pass_of}
 -- the last lines of a change that is not doubtful
 unfoldable pub list_found : ResourceId → ProviderRevision → Option ProviderEvent → Machine → Run
 list_found resource revision event m =
-    if holds resource revision m then ok (unstage resource m) else stage resource (staged_of event) m
+    when holds resource revision m then ok (unstage resource m) else stage resource (staged_of event) m
 
 -- a request for the page that the open pass is to go on from
 unfoldable pub request_from : Machine → Run

@@ -12,7 +12,7 @@ use Rattle.format.specs.Format.{All, zeros}
 use Rattle.model.specs.Calls.{Effect}
 use Rattle.model.specs.State.{SyncState}
 use Rattle.model.specs.Limits.{document01}
-use Rattle.model.specs.Maps.{if◌then◌else◌}
+use Rattle.model.specs.Maps.{when◌then◌else◌}
 use Rattle.model.specs.Formats.{Bytes, effect_f, enc_effects}
 use Rattle.model.specs.Machine.{match◌none:◌some:◌}
 use Rattle.model.specs.Sync.{Stepped}
@@ -65,14 +65,14 @@ module _ (s w o frame : Bytes) (ls : length s ≡ 58543) (lw : length w ≡ 5854
   right = sym (by_output s w o ls lw) ∙ le-leb 32768 (length o) lo
 
   entry_steps : entry document01 (lent s w o) frame ≡ answered document01 (lent s w o) (step_bytes document01 s frame)
-  unfolding entry if◌then◌else◌
+  unfolding entry when◌then◌else◌
   entry_steps = rw right
 
   this_call : Call
   this_call = record { work = w; out = o; frame = frame }
 
   called : (st : SyncState) → read_state document01 s ≡ some st → call document01 st this_call ≡ step_frame document01 st (decode frame)
-  unfolding call lend if◌then◌else◌ this_call
+  unfolding call lend when◌then◌else◌ this_call
   called st e =
       let h : (state_layout document01).enc st ≡ s = sym ((states_exact document01 s st).0 e).1 in
       rw (h, right)

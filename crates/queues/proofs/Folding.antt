@@ -15,7 +15,7 @@ use Rattle.model.specs.Event.{NormalizedEvent, ProviderEvent}
 use Rattle.model.specs.Edits.{Operation, Edit}
 use Rattle.model.specs.Seam.{ResourceId}
 use Rattle.model.specs.Formats.{same, resource_id, short_text, u32, tag, ids_f, fields_f, event_f, operation_f, role_f, edit_f}
-use Rattle.model.specs.Maps.{if◌then◌else◌, same_text}
+use Rattle.model.specs.Maps.{when◌then◌else◌, same_text}
 use Rattle.model.specs.State.{Pending, Queue, SyncState}
 use Rattle.model.specs.Sync.{Coalesced, with_fields, is_attendee, fold_operation, coalesce, coalesced_with, foldable}
 use Rattle.model.proofs.FormatsLaws.{ids_f_law, fields_f_law}
@@ -192,12 +192,12 @@ module _ (b frame : List ℕ) (at from to : ℕ) (l : at ≤ length b) (kf : fie
   tested base ours S = T ∙ ap₂ same_text (P₃.is F (fields_there frame from kf)) (P₂.is ours (second_of base ours S))
 
   pub updates_apart : {c : List ℕ} → t ≡ false → (base ours : NormalizedEvent) → StandsAt (fields_f ⊗ fields_f) (base, ours) b at → FoldedAs Apart c (fold_update base ours F G)
-  unfolding Folds fold_update if◌then◌else◌
-  updates_apart e base ours S = record { is = ap (λ (c : Bool). if c then some (Coalesced.Into (Operation.Update base G)) else none) (sym (tested base ours S) ∙ e) }
+  unfolding Folds fold_update when◌then◌else◌
+  updates_apart e base ours S = record { is = ap (λ (c : Bool). when c then some (Coalesced.Into (Operation.Update base G)) else none) (sym (tested base ours S) ∙ e) }
 
   pub updates_fold : {c c₁ c₂ c₃ y : List ℕ} {p p₁ p₂ p₃ : Pen} → 1469 ≤ length c → t ≡ true → PartOf fields_f frame to y → p ≡ pen 0 → Wrote c c₁ p p₁ (1 ∷ []) → Wrote c₁ c₂ p₁ p₂ x₁ → Wrote c₂ c₃ p₂ p₃ y
       → (base ours : NormalizedEvent) → StandsAt (fields_f ⊗ fields_f) (base, ours) b at → FoldedAs (Into p₃.at) c₃ (fold_update base ours F G)
-  unfolding Folds fold_update if◌then◌else◌
+  unfolding Folds fold_update when◌then◌else◌
   updates_fold {c} {c₃ = c₃} {y} {p} {p₃ = p₃} r e Q a W X Y base ours S =
       let U = first_of base ours S in
       let o : operation_f.Ok (Operation.Update base G) = ok_update base G U.ok kt in
@@ -205,7 +205,7 @@ module _ (b frame : List ℕ) (at from to : ℕ) (l : at ≤ length b) (kf : fie
       record {
         is = record {
           operation = Operation.Update base G;
-          is = ap (λ (c : Bool). if c then some (Coalesced.Into (Operation.Update base G)) else none) (sym (tested base ours S) ∙ e);
+          is = ap (λ (c : Bool). when c then some (Coalesced.Into (Operation.Update base G)) else none) (sym (tested base ours S) ∙ e);
           ok = o;
           bytes = filled 1469 a (subst (λ (u : List ℕ). Wrote c c₃ p p₃ u) (sym z) (wrote_then W (wrote_then X Y))) ((widths.operation_within).bytes (Operation.Update base G) o) r;
         };
@@ -239,12 +239,12 @@ module _ (b frame : List ℕ) (at from to m : ℕ) (l : at ≤ length b) (kf : f
   compared e S = T ∙ ap₂ same_text (P₂.is H (fields_there frame from kf)) (P₁.is e.fields (held_at e S))
 
   pub creates_apart : {c : List ℕ} → t ≡ false → (e : ProviderEvent) → StandsAt event_f e b at → FoldedAs Apart c (fold_create e H K)
-  unfolding Folds fold_create if◌then◌else◌
-  creates_apart q e S = record { is = ap (λ (c : Bool). if c then some (Coalesced.Into (Operation.Create (with_fields K e))) else none) (sym (compared e S) ∙ q) }
+  unfolding Folds fold_create when◌then◌else◌
+  creates_apart q e S = record { is = ap (λ (c : Bool). when c then some (Coalesced.Into (Operation.Create (with_fields K e))) else none) (sym (compared e S) ∙ q) }
 
   pub creates_fold : {c c₁ c₂ c₃ c₄ x y z : List ℕ} {p p₁ p₂ p₃ p₄ : Pen} {n : ℕ} → 1469 ≤ length c → t ≡ true → x ≡ part_of b at m → PartOf fields_f frame to y → EndOf fields_f b m n → PartOf tag b n z
       → p ≡ pen 0 → Wrote c c₁ p p₁ (0 ∷ []) → Wrote c₁ c₂ p₁ p₂ x → Wrote c₂ c₃ p₂ p₃ y → Wrote c₃ c₄ p₃ p₄ z → (e : ProviderEvent) → StandsAt event_f e b at → FoldedAs (Into p₄.at) c₄ (fold_create e H K)
-  unfolding Folds fold_create if◌then◌else◌
+  unfolding Folds fold_create when◌then◌else◌
   creates_fold {c} {c₄ = c₄} {x} {y} {z} {p} {p₄ = p₄} {n} r q d Q N Z a W X Y L e S =
       let I = fields_in e b at l S in
       let U = held_at e S in
@@ -260,7 +260,7 @@ module _ (b frame : List ℕ) (at from to m : ℕ) (l : at ≤ length b) (kf : f
       record {
         is = record {
           operation = Operation.Create (with_fields K e);
-          is = ap (λ (c : Bool). if c then some (Coalesced.Into (Operation.Create (with_fields K e))) else none) (sym (compared e S) ∙ q);
+          is = ap (λ (c : Bool). when c then some (Coalesced.Into (Operation.Create (with_fields K e))) else none) (sym (compared e S) ∙ q);
           ok = o;
           bytes = filled 1469 a (subst (λ (u : List ℕ). Wrote c c₄ p p₄ u) (sym g) (wrote_then W (wrote_then X (wrote_then Y L)))) ((widths.operation_within).bytes (Operation.Create (with_fields K e)) o) r;
         };
@@ -299,19 +299,19 @@ module _ (b : List ℕ) (at : ℕ) where
 
   -- a delete behind it
   pub delete_not : {c : List ℕ} {d : Bool} → d ≡ false → (o : Operation) → StandsAt operation_f o b at → FoldedAs Apart c (fold_operation d o Operation.Delete)
-  unfolding fold_operation Folds if◌then◌else◌
+  unfolding fold_operation Folds when◌then◌else◌
   delete_not e (Operation.Create v) S = record { is = rw e }
   delete_not e (Operation.Update x y) S = record { is = rw e }
   delete_not e Operation.Delete S = record { is = refl }
 
   pub delete_on_create : {c : List ℕ} {d : Bool} → d ≡ true → get_or b at 0 ≡ 0 → (o : Operation) → StandsAt operation_f o b at → FoldedAs Cancelled c (fold_operation d o Operation.Delete)
-  unfolding fold_operation Folds if◌then◌else◌
+  unfolding fold_operation Folds when◌then◌else◌
   delete_on_create e z (Operation.Create v) S = record { is = rw e }
   delete_on_create e z (Operation.Update x y) S = absurd (let q : ◌≡◌ {A = ℕ} 0 1 = sym z ∙ first_byte (Operation.Update x y) 1 (fields_f.enc x ++ fields_f.enc y) (update_bytes x y) S in omega arith)
   delete_on_create e z Operation.Delete S = absurd (let q : ◌≡◌ {A = ℕ} 0 2 = sym z ∙ first_byte Operation.Delete 2 [] delete_bytes S in omega arith)
 
   pub delete_on_update : {c c₁ : List ℕ} {p p₁ : Pen} {d : Bool} → 1469 ≤ length c → d ≡ true → get_or b at 0 ≡ 1 → p ≡ pen 0 → Wrote c c₁ p p₁ (2 ∷ []) → (o : Operation) → StandsAt operation_f o b at → FoldedAs (Into p₁.at) c₁ (fold_operation d o Operation.Delete)
-  unfolding fold_operation Folds if◌then◌else◌
+  unfolding fold_operation Folds when◌then◌else◌
   delete_on_update r e z a W (Operation.Create v) S = absurd (let q : ◌≡◌ {A = ℕ} 1 0 = sym z ∙ first_byte (Operation.Create v) 0 (event_f.enc v) (create_bytes v) S in omega arith)
   delete_on_update {c} {c₁} {p} {p₁} r e z a W (Operation.Update x y) S = record {
     is = record {
@@ -324,7 +324,7 @@ module _ (b : List ℕ) (at : ℕ) where
   delete_on_update r e z a W Operation.Delete S = absurd (let q : ◌≡◌ {A = ℕ} 1 2 = sym z ∙ first_byte Operation.Delete 2 [] delete_bytes S in omega arith)
 
   pub delete_on_delete : {c : List ℕ} {d : Bool} → d ≡ true → (get_or b at 0 ≡ 0 → ⊥) → (get_or b at 0 ≡ 1 → ⊥) → (o : Operation) → StandsAt operation_f o b at → FoldedAs Apart c (fold_operation d o Operation.Delete)
-  unfolding fold_operation Folds if◌then◌else◌
+  unfolding fold_operation Folds when◌then◌else◌
   delete_on_delete e n m (Operation.Create v) S = absurd (n (first_byte (Operation.Create v) 0 (event_f.enc v) (create_bytes v) S))
   delete_on_delete e n m (Operation.Update x y) S = absurd (m (first_byte (Operation.Update x y) 1 (fields_f.enc x ++ fields_f.enc y) (update_bytes x y) S))
   delete_on_delete e n m Operation.Delete S = record { is = refl }
@@ -365,25 +365,25 @@ module _ (b : List ℕ) (at : ℕ) (next : Edit) {x y : List ℕ} {t : Bool} (P 
   roles e S = T ∙ ap₂ same_text (P.is e.role S) Y
 
   pub coalesce_apart : {c : List ℕ} → t ≡ false → (e : Edit) → StandsAt operation_f e.operation b (at + 66) → StandsAt role_f e.role b (at + 1535) → FoldedAs Apart c (coalesce e next)
-  unfolding Folds coalesce if◌then◌else◌
-  coalesce_apart q e S R = record { is = ap (λ (u : Bool). if u then fold_operation (not (is_attendee next.role)) e.operation next.operation else none) (sym (roles e R) ∙ q) }
+  unfolding Folds coalesce when◌then◌else◌
+  coalesce_apart q e S R = record { is = ap (λ (u : Bool). when u then fold_operation (not (is_attendee next.role)) e.operation next.operation else none) (sym (roles e R) ∙ q) }
 
   pub coalesce_so : {c : List ℕ} {r : Folded} (d : Bool) → t ≡ true → d ≡ not (is_attendee next.role) → ((o : Operation) → StandsAt operation_f o b (at + 66) → FoldedAs r c (fold_operation d o next.operation))
       → (e : Edit) → StandsAt operation_f e.operation b (at + 66) → StandsAt role_f e.role b (at + 1535) → FoldedAs r c (coalesce e next)
-  unfolding coalesce if◌then◌else◌
+  unfolding coalesce when◌then◌else◌
   coalesce_so {c} {r} d q k E e S R =
       let f : fold_operation d e.operation next.operation ≡ coalesce e next =
-      ap (λ (u : Bool). fold_operation u e.operation next.operation) k ∙ ap (λ (u : Bool). if u then fold_operation (not (is_attendee next.role)) e.operation next.operation else none) (sym q ∙ roles e R) in
+      ap (λ (u : Bool). fold_operation u e.operation next.operation) k ∙ ap (λ (u : Bool). when u then fold_operation (not (is_attendee next.role)) e.operation next.operation else none) (sym q ∙ roles e R) in
       subst (FoldedAs r c) f (E e.operation S)
 
 -- ---- the newest entry of a queue
 
 few_foldable : (q : Queue) → length q < 2 → foldable q ≡ none
-unfolding foldable if◌then◌else◌
+unfolding foldable when◌then◌else◌
 few_foldable q l = rw (lt-leb 2 (length q) l)
 
 many_foldable : (q : Queue) → 2 ≤ length q → foldable q ≡ nth (length q - 1) q
-unfolding foldable if◌then◌else◌
+unfolding foldable when◌then◌else◌
 many_foldable q l = rw (le-leb 2 (length q) l) (sym (nth_back q))
 
 foldable_is : (r : ResourceId) {w : List ℕ} {n : ℕ} → Reads (λ s. length (queue r s)) w n → 2 ≤ n → (s : SyncState) → Keeps s w → foldable (queue r s) ≡ nth (n - 1) (queue r s)

@@ -18,7 +18,7 @@ use Rattle.model.specs.Edits.{Operation}
 use Rattle.model.specs.Shapes.{provider_from}
 use Rattle.model.specs.Formats.{operation_f, event_f, ids_f, provider_f}
 use Rattle.model.specs.State.{Pending, Purpose}
-use Rattle.model.specs.Maps.{if◌then◌else◌, is_some_and, first}
+use Rattle.model.specs.Maps.{when◌then◌else◌, is_some_and, first}
 use Rattle.model.specs.Machine.{Machine, request}
 use Rattle.model.specs.Sync.{is_graph, assigns_ids, creates_under_key, looks_up, head, read_for_edit}
 use Rattle.state.specs.Layout.{padded, field}
@@ -90,18 +90,18 @@ unfolding head
 head_is r m = nth_first (queue r m.state) ∙ ap first (sym (queue_is r m))
 
 module _ (r : ResourceId) {w o w' o' : List ℕ} {p q : Progress} {b : Bool} (R : Reads (λ s. is_some_and (λ p. creates_under_key p.edit.operation) (nth 0 (queue r s))) w b) where
-  reads_as : (what : seam.Request) → (if b then seam.Request.Lookup r else seam.Request.Read r) ≡ what → Does (request (Purpose.EditRead r) what) w o p q w' o' → Does (read_for_edit r) w o p q w' o'
+  reads_as : (what : seam.Request) → (when b then seam.Request.Lookup r else seam.Request.Read r) ≡ what → Does (request (Purpose.EditRead r) what) w o p q w' o' → Does (read_for_edit r) w o p q w' o'
   unfolding read_for_edit looks_up
   reads_as what e d =
       runs.is_held (read_for_edit r)
       (λ m h. ap (λ (x : seam.Request). request (Purpose.EditRead r) x m)
-      (sym e ∙ ap (λ (c : Bool). if c then seam.Request.Lookup r else seam.Request.Read r) (R.is m.state h.keeps ∙ ap (is_some_and (λ p. creates_under_key p.edit.operation)) (head_is r m))))
+      (sym e ∙ ap (λ (c : Bool). when c then seam.Request.Lookup r else seam.Request.Read r) (R.is m.state h.keeps ∙ ap (is_some_and (λ p. creates_under_key p.edit.operation)) (head_is r m))))
       d
 
   pub looked_up : b ≡ true → Does (request (Purpose.EditRead r) (seam.Request.Lookup r)) w o p q w' o' → Does (read_for_edit r) w o p q w' o'
-  unfolding if◌then◌else◌
-  looked_up e d = reads_as (seam.Request.Lookup r) (ap (λ (c : Bool). if c then seam.Request.Lookup r else seam.Request.Read r) e) d
+  unfolding when◌then◌else◌
+  looked_up e d = reads_as (seam.Request.Lookup r) (ap (λ (c : Bool). when c then seam.Request.Lookup r else seam.Request.Read r) e) d
 
   pub read_plain : b ≡ false → Does (request (Purpose.EditRead r) (seam.Request.Read r)) w o p q w' o' → Does (read_for_edit r) w o p q w' o'
-  unfolding if◌then◌else◌
-  read_plain e d = reads_as (seam.Request.Read r) (ap (λ (c : Bool). if c then seam.Request.Lookup r else seam.Request.Read r) e) d
+  unfolding when◌then◌else◌
+  read_plain e d = reads_as (seam.Request.Read r) (ap (λ (c : Bool). when c then seam.Request.Lookup r else seam.Request.Read r) e) d

@@ -10,21 +10,21 @@ use lib.Seq.{take_at}
 use borrow.Author.Tests.{le-leb, lt-leb, leb-true, leb-false, eq-eqb, ne_eqb}
 use Rattle.format.specs.Format.{Format, Lawful}
 use Rattle.tables.specs.Table.{text}
-use Rattle.model.specs.Maps.{if◌then◌else◌}
+use Rattle.model.specs.Maps.{when◌then◌else◌}
 use Rattle.frame.specs.Read.{stepped, skips}
 use Rattle.frame.specs.declared.Cursor.{Cursor}
 use Rattle.queues.specs.Parts.{StandsAt, PartOf, EndOf, part_of}
 
 pub part_under : (b : List ℕ) (from to : ℕ) → to < from → [] ≡ part_of b from to
-unfolding if◌then◌else◌
+unfolding when◌then◌else◌
 part_under b from to l = rw (lt-leb from to l)
 
 pub part_over : (b : List ℕ) (from to : ℕ) → from ≤ to → length b < to → [] ≡ part_of b from to
-unfolding if◌then◌else◌
+unfolding when◌then◌else◌
 part_over b from to l k = rw (le-leb from to l, lt-leb to (length b) k)
 
 pub part_in : (b : List ℕ) (from to : ℕ) → from ≤ to → to ≤ length b → take (to - from) (drop from b) ≡ part_of b from to
-unfolding if◌then◌else◌
+unfolding when◌then◌else◌
 part_in b from to l k = rw (le-leb from to l, le-leb to (length b) k)
 
 -- the place after a value that stands at one
@@ -33,7 +33,7 @@ unfolding skips
 after {f = f} F b at v S = ap (stepped b) (ap f.dec S.is ∙ F.writes v S.ok S.rest)
 
 pub part_stands : {A : Type 0} {f : Format A} (F : Lawful f) (b : List ℕ) (at end : ℕ) (part : List ℕ) → end ≡ (skips f b (record { at = at; ok = true })).at → part ≡ part_of b at end → PartOf f b at part
-unfolding if◌then◌else◌
+unfolding when◌then◌else◌
 part_stands {f = f} F b at end part e q = record {
   is = λ v S.
       let n : end ≡ length b - length S.rest = e ∙ ap (λ (c : Cursor). c.at) (after F b at v S) in

@@ -16,7 +16,7 @@ use Rattle.model.specs.Calls.{Notice, Effect}
 use Rattle.model.specs.Formats.{short_text, conflicts_f, refusals_f, operation_f, role_f, edit_f}
 use Rattle.model.specs.Limits.{document01}
 use Rattle.model.specs.State.{Pending, Queue, SyncState}
-use Rattle.model.specs.Maps.{if◌then◌else◌, is_some_and, is_empty, by_name, get}
+use Rattle.model.specs.Maps.{when◌then◌else◌, is_some_and, is_empty, by_name, get}
 use Rattle.model.specs.Machine.{Machine, Run, refused, ok, ◌>>=◌, match◌none:◌some:◌, tell, with_state, queue_of, set_queue, entries}
 use Rattle.model.specs.Sync.{Coalesced, is_create, with_resource, new_pending, notify, start_edit, due, expired, follow_alias, absorb, fold_in, cancel, append, foldable, coalesced_with, coalesce, place, enqueue_live, enqueue, back, without_back}
 use Rattle.model.proofs.Holds as model
@@ -89,14 +89,14 @@ unfolding append_entry document01
 appended r e p {w} {w'} {b} f T a = steps.changed a (steps.tries (append_entry e) p T (λ m l h.
     let g : set_queue e.resource (queue_of e.resource m ++ new_pending e ∷ []) m ≡ with_state (put_queue r (queue r m.state ++ (new_pending e ∷ [])) m.state) m =
     ap (λ (x : ResourceId). set_queue x (queue_of x m ++ new_pending e ∷ []) m) f ∙ ap (λ (x : Queue). set_queue r (x ++ new_pending e ∷ []) m) (queue_is r m) ∙ set_queue_is r (queue r m.state ++ (new_pending e ∷ [])) m in
-    ap (λ (x : Machine). if leb (entries x) x.limits.waiting then ok x else refused 5) g
-    ∙ ap₂ (λ (x y : ℕ). if leb x y then ok (with_state (put_queue r (queue r m.state ++ (new_pending e ∷ [])) m.state) m) else refused 5)
+    ap (λ (x : Machine). when leb (entries x) x.limits.waiting then ok x else refused 5) g
+    ∙ ap₂ (λ (x y : ℕ). when leb x y then ok (with_state (put_queue r (queue r m.state ++ (new_pending e ∷ [])) m.state) m) else refused 5)
     (entries_is (with_state (put_queue r (queue r m.state ++ (new_pending e ∷ [])) m.state) m)) (ap (λ x. x.waiting) l)))
 
-append_is : (r : ResourceId) (e : Edit) (m : Machine) → e.resource ≡ r → append_to e m ≡ (append_entry e m >>= λ m'. if is_empty (queue r m.state) then start_edit r m' else ok m')
+append_is : (r : ResourceId) (e : Edit) (m : Machine) → e.resource ≡ r → append_to e m ≡ (append_entry e m >>= λ m'. when is_empty (queue r m.state) then start_edit r m' else ok m')
 unfolding append_to append append_entry
-append_is r e m f = subst (λ (x : ResourceId). append (queue_of e.resource m) e m ≡ (append_entry e m >>= λ m'. if is_empty (queue x m.state) then start_edit x m' else ok m')) f
-    (ap (λ (x : Queue). append_entry e m >>= λ m'. if is_empty x then start_edit e.resource m' else ok m') (queue_is e.resource m))
+append_is r e m f = subst (λ (x : ResourceId). append (queue_of e.resource m) e m ≡ (append_entry e m >>= λ m'. when is_empty (queue x m.state) then start_edit x m' else ok m')) f
+    (ap (λ (x : Queue). append_entry e m >>= λ m'. when is_empty x then start_edit e.resource m' else ok m') (queue_is e.resource m))
 
 empty_is : (q : Queue) (n : ℕ) → n ≡ length q → n ≡ 0 → is_empty q ≡ true
 unfolding is_empty
@@ -110,15 +110,15 @@ full_is (p ∷ q) n e z = refl
 
 module _ (r : ResourceId) (e : Edit) (f : e.resource ≡ r) {w w₁ o : List ℕ} {p q : Progress} {n : ℕ} (N : Reads (λ s. length (queue r s)) w n) (C : Changes (append_entry e) w p q w₁) where
   pub append_start : {w₂ o₂ : List ℕ} {s : Progress} → n ≡ 0 → Does (start_edit r) w₁ o q s w₂ o₂ → Does (append_to e) w o p s w₂ o₂
-  unfolding if◌then◌else◌
+  unfolding when◌then◌else◌
   append_start z D = runs.is_held (append_to e)
-      (λ m h. ap (λ (b : Bool). append_entry e m >>= λ m'. if b then start_edit r m' else ok m') (sym (empty_is (queue r m.state) n (N.is m.state h.keeps) z)) ∙ sym (append_is r e m f))
+      (λ m h. ap (λ (b : Bool). append_entry e m >>= λ m'. when b then start_edit r m' else ok m') (sym (empty_is (queue r m.state) n (N.is m.state h.keeps) z)) ∙ sym (append_is r e m f))
       (runs.next (C.does o) D)
 
   pub append_more : (n ≡ 0 → ⊥) → Does (append_to e) w o p q w₁ o
-  unfolding if◌then◌else◌
+  unfolding when◌then◌else◌
   append_more z = runs.is_held (append_to e)
-      (λ m h. ap (λ (b : Bool). append_entry e m >>= λ m'. if b then start_edit r m' else ok m') (sym (full_is (queue r m.state) n (N.is m.state h.keeps) z)) ∙ sym (append_is r e m f))
+      (λ m h. ap (λ (b : Bool). append_entry e m >>= λ m'. when b then start_edit r m' else ok m') (sym (full_is (queue r m.state) n (N.is m.state h.keeps) z)) ∙ sym (append_is r e m f))
       (runs.next (C.does o) runs.nothing)
 
 -- ---- fold
@@ -127,9 +127,9 @@ pub folded_in : (r : ResourceId) (e : Edit) (p : Progress) (op : Operation) {w w
     → Tries (λ s. may_absorb op e (queue r s)) (λ s. put_queue r (change_last (absorb op e) (queue r s)) s) w b w' → q ≡ tried_by p b → Changes (fold_last op e) w p q w'
 unfolding fold_last
 folded_in r e p op f T a = steps.changed a (steps.tries (fold_last op e) p T (λ m l h.
-    ap (λ (x : ResourceId). if may_absorb op e (queue_of x m) then ok (set_queue x (change_last (absorb op e) (queue_of x m)) m) else refused 5) f
-    ∙ ap (λ (x : Queue). if may_absorb op e x then ok (set_queue r (change_last (absorb op e) x) m) else refused 5) (queue_is r m)
-    ∙ ap (λ (x : Machine). if may_absorb op e (queue r m.state) then ok x else refused 5) (set_queue_is r (change_last (absorb op e) (queue r m.state)) m)))
+    ap (λ (x : ResourceId). when may_absorb op e (queue_of x m) then ok (set_queue x (change_last (absorb op e) (queue_of x m)) m) else refused 5) f
+    ∙ ap (λ (x : Queue). when may_absorb op e x then ok (set_queue r (change_last (absorb op e) x) m) else refused 5) (queue_is r m)
+    ∙ ap (λ (x : Machine). when may_absorb op e (queue r m.state) then ok x else refused 5) (set_queue_is r (change_last (absorb op e) (queue r m.state)) m)))
 
 -- ---- cancel
 
@@ -224,10 +224,10 @@ unfolding fold_last fold_in may_absorb change_last match◌none:◌some:◌ docu
 folds_so q p op e m l k b = rw (k, b, l)
 
 short_part : (b x : List ℕ) (n : ℕ) → x ≡ part_of b 0 n → length b ≡ 1469 → length x ≤ 1469
-unfolding if◌then◌else◌
+unfolding when◌then◌else◌
 short_part b x n e l = subst (λ (y : List ℕ). length y ≤ 1469) (sym e) (go (leb 0 n) (leb n (length b)))
   where
-    go : (s t : Bool) → length (if s then (if t then take (n - 0) (drop 0 b) else []) else []) ≤ 1469
+    go : (s t : Bool) → length (when s then (when t then take (n - 0) (drop 0 b) else []) else []) ≤ 1469
     go true true = let h = take_short (n - 0) (drop 0 b) in omega arith
     go true false = omega arith
     go false t = omega arith
@@ -301,23 +301,23 @@ module _ (r : ResourceId) (e : Edit) {w c : List ℕ} {x : Folded} (C : (s : Syn
 
 module _ (e : Edit) {w : List ℕ} {b : Bool} (B : b ≡ is_create e.operation) where
   pub target_create : {t : List ℕ} → b ≡ true → t ≡ e.resource → Reads (target_of e) w t
-  unfolding target_of if◌then◌else◌
-  target_create z q = record { is = λ s h. q ∙ sym (ap (λ (c : Bool). if c then e.resource else (match get by_name e.resource s.aliases none: e.resource some: (λ to. to))) (sym B ∙ z)) }
+  unfolding target_of when◌then◌else◌
+  target_create z q = record { is = λ s h. q ∙ sym (ap (λ (c : Bool). when c then e.resource else (match get by_name e.resource s.aliases none: e.resource some: (λ to. to))) (sym B ∙ z)) }
 
   pub target_alias : (n t : List ℕ) (f : Bool) → b ≡ false → n ≡ e.resource → Reads (λ s. get by_name n s.aliases) w (name_in f t) → f ≡ true → Reads (target_of e) w (name_of t)
-  unfolding target_of if◌then◌else◌ match◌none:◌some:◌
+  unfolding target_of when◌then◌else◌ match◌none:◌some:◌
   target_alias n t f z q A k = record {
     is = λ s h.
         let a : some (name_of t) ≡ get by_name e.resource s.aliases = ap (λ (c : Bool). name_in c t) (sym k) ∙ A.is s h ∙ ap (λ (x : List ℕ). get by_name x s.aliases) q in
-        sym (ap (λ (c : Bool). if c then e.resource else (match get by_name e.resource s.aliases none: e.resource some: (λ to. to))) (sym B ∙ z) ∙ ap (λ x. match x none: e.resource some: (λ to. to)) (sym a));
+        sym (ap (λ (c : Bool). when c then e.resource else (match get by_name e.resource s.aliases none: e.resource some: (λ to. to))) (sym B ∙ z) ∙ ap (λ x. match x none: e.resource some: (λ to. to)) (sym a));
   }
 
   pub target_same : (n t : List ℕ) (f : Bool) → b ≡ false → n ≡ e.resource → Reads (λ s. get by_name n s.aliases) w (name_in f t) → f ≡ false → Reads (target_of e) w n
-  unfolding target_of if◌then◌else◌ match◌none:◌some:◌
+  unfolding target_of when◌then◌else◌ match◌none:◌some:◌
   target_same n t f z q A k = record {
     is = λ s h.
         let a : none ≡ get by_name e.resource s.aliases = ap (λ (c : Bool). name_in c t) (sym k) ∙ A.is s h ∙ ap (λ (x : List ℕ). get by_name x s.aliases) q in
-        q ∙ sym (ap (λ (c : Bool). if c then e.resource else (match get by_name e.resource s.aliases none: e.resource some: (λ to. to))) (sym B ∙ z) ∙ ap (λ x. match x none: e.resource some: (λ to. to)) (sym a));
+        q ∙ sym (ap (λ (c : Bool). when c then e.resource else (match get by_name e.resource s.aliases none: e.resource some: (λ to. to))) (sym B ∙ z) ∙ ap (λ x. match x none: e.resource some: (λ to. to)) (sym a));
   }
 
 pub creates : (s : List ℕ) {o : places.Operation} (event : ℕ) → o ≡ place_of.Create event → true ≡ is_create (meant_operation s o)
@@ -335,10 +335,10 @@ deletes s e = rw e
 -- ---- enqueue
 
 follows : (e : Edit) (m : Machine) → follow_alias e m ≡ with_resource (target_of e m.state) e
-unfolding follow_alias target_of with_resource if◌then◌else◌ match◌none:◌some:◌
+unfolding follow_alias target_of with_resource when◌then◌else◌ match◌none:◌some:◌
 follows e m = go (is_create e.operation) (get by_name e.resource m.state.aliases)
   where
-    go : (b : Bool) (x : Option ResourceId) → (if b then e else (match x none: e some: (λ to. with_resource to e))) ≡ with_resource (if b then e.resource else (match x none: e.resource some: (λ to. to))) e
+    go : (b : Bool) (x : Option ResourceId) → (when b then e else (match x none: e some: (λ to. with_resource to e))) ≡ with_resource (when b then e.resource else (match x none: e.resource some: (λ to. to))) e
     go true x = refl
     go false none = refl
     go false (some to) = refl
@@ -349,12 +349,12 @@ module _ (e : Edit) {w : List ℕ} {b : Bool} (R : Reads (λ s. is_some_and (λ 
   expiry_is m h = R.is m.state h
 
   pub enqueue_expired : {o : List ℕ} {p q : Progress} {o' : List ℕ} → b ≡ true → Pushes (Effect.Notify (Notice.Expired e.id)) o p q o' → Does (enqueue e) w o p q w o'
-  unfolding enqueue if◌then◌else◌ tell
-  enqueue_expired z P = runs.is_held (enqueue e) (λ m h. ap (λ (c : Bool). if c then tell (Notice.Expired e.id) m else enqueue_live (follow_alias e m) m) (sym z ∙ expiry_is m h.keeps)) (P.does w)
+  unfolding enqueue when◌then◌else◌ tell
+  enqueue_expired z P = runs.is_held (enqueue e) (λ m h. ap (λ (c : Bool). when c then tell (Notice.Expired e.id) m else enqueue_live (follow_alias e m) m) (sym z ∙ expiry_is m h.keeps)) (P.does w)
 
   pub enqueue_on : {o : List ℕ} {p q : Progress} {w' o' : List ℕ} {t : ResourceId} → b ≡ false → Reads (target_of e) w t → Does (enqueue_live (with_resource t e)) w o p q w' o' → Does (enqueue e) w o p q w' o'
-  unfolding enqueue if◌then◌else◌
+  unfolding enqueue when◌then◌else◌
   enqueue_on z T D = runs.is_held (enqueue e)
       (λ m h. ap (λ (x : Edit). enqueue_live x m) (ap (λ (x : ResourceId). with_resource x e) (T.is m.state h.keeps) ∙ sym (follows e m))
-      ∙ ap (λ (c : Bool). if c then tell (Notice.Expired e.id) m else enqueue_live (follow_alias e m) m) (sym z ∙ expiry_is m h.keeps))
+      ∙ ap (λ (c : Bool). when c then tell (Notice.Expired e.id) m else enqueue_live (follow_alias e m) m) (sym z ∙ expiry_is m h.keeps))
       D

@@ -17,7 +17,7 @@ use Rattle.model.specs.Calls.{Rejection, Notice, Effect}
 use Rattle.model.specs.Limits.{max_effects, document01}
 use Rattle.model.specs.Formats.{enc_effects}
 use Rattle.model.specs.State.{Pending, Queue, SyncState, Purpose}
-use Rattle.model.specs.Maps.{if◌then◌else◌, is_some_and, by_name, keys}
+use Rattle.model.specs.Maps.{when◌then◌else◌, is_some_and, by_name, keys}
 use Rattle.model.specs.Machine.{Machine, Run, refused, ok, ◌>>=◌, for_each, match◌none:◌some:◌, tell, push, request, with_state, queue_of, set_queue}
 use Rattle.model.specs.Sync.{assigns_ids, is_attendee, creates_under_key, ids_of, ending, notify, read_for_edit, start_head, start_edit, finish_queue, finish}
 use Rattle.model.specs.WellFormed.{rising}
@@ -126,13 +126,13 @@ begun Start.Create a b c d = b
 begun Start.Read a b c d = c
 begun (Start.Finish rejection) a b c d = d rejection
 
-writes_so : (b : Bool) (x y z : Run) (u : Rejection → Run) → begun (begins_write b) x y z u ≡ (if b then z else y)
-unfolding if◌then◌else◌
+writes_so : (b : Bool) (x y z : Run) (u : Rejection → Run) → begun (begins_write b) x y z u ≡ (when b then z else y)
+unfolding when◌then◌else◌
 writes_so true x y z u = refl
 writes_so false x y z u = refl
 
-deletes_so : (b : Bool) (x y z : Run) (u : Rejection → Run) → begun (begins_delete b) x y z u ≡ (if b then u Rejection.NotOwner else z)
-unfolding if◌then◌else◌
+deletes_so : (b : Bool) (x y z : Run) (u : Rejection → Run) → begun (begins_delete b) x y z u ≡ (when b then u Rejection.NotOwner else z)
+unfolding when◌then◌else◌
 deletes_so true x y z u = refl
 deletes_so false x y z u = refl
 
@@ -202,10 +202,10 @@ module _ (r : ResourceId) {w o w' o' : List ℕ} {p q : Progress} {b : Beginning
 
 -- a notice looks only at the effects, and an assignment only at the state
 tell_apart : (n : Notice) (s : SyncState) (m : Machine) → tell n (with_state s m) ≡ (tell n m >>= λ m'. ok (with_state s m'))
-unfolding tell push if◌then◌else◌ ◌>>=◌
+unfolding tell push when◌then◌else◌ ◌>>=◌
 tell_apart n s m = go (leb (length (enc_effects (m.out ++ Effect.Notify n ∷ []))) max_effects) (record { limits = m.limits; state = m.state; out = m.out ++ Effect.Notify n ∷ [] })
   where
-    go : (b : Bool) (m' : Machine) → (if b then ok (with_state s m') else refused 7) ≡ ((if b then ok m' else refused 7) >>= λ m'. ok (with_state s m'))
+    go : (b : Bool) (m' : Machine) → (when b then ok (with_state s m') else refused 7) ≡ ((when b then ok m' else refused 7) >>= λ m'. ok (with_state s m'))
     go true m' = refl
     go false m' = refl
 

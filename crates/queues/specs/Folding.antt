@@ -5,7 +5,7 @@ use Rattle.format.specs.Format.{option}
 use Rattle.model.specs.Event.{NormalizedEvent, ProviderEvent}
 use Rattle.model.specs.Edits.{Operation}
 use Rattle.model.specs.Formats.{same, short_text, u32, ids_f, fields_f, operation_f}
-use Rattle.model.specs.Maps.{if◌then◌else◌}
+use Rattle.model.specs.Maps.{when◌then◌else◌}
 use Rattle.model.specs.Sync.{Coalesced, with_fields}
 use Rattle.queues.specs.declared.coalescing.Folded.{Folded}
 use Rattle.queues.specs.declared.coalescing.Folded.TheVariants.{Apart, Into, Cancelled}
@@ -17,10 +17,10 @@ event_front e = ids_f.enc e.ids ++ ((option short_text).enc e.revision ++ u32.en
 
 -- an update behind an update, and behind a create
 unfoldable pub fold_update : (base ours from to : NormalizedEvent) → Option Coalesced
-fold_update base ours from to = if same fields_f from ours then some (Coalesced.Into (Operation.Update base to)) else none
+fold_update base ours from to = when same fields_f from ours then some (Coalesced.Into (Operation.Update base to)) else none
 
 unfoldable pub fold_create : ProviderEvent → (from to : NormalizedEvent) → Option Coalesced
-fold_create event from to = if same fields_f from event.fields then some (Coalesced.Into (Operation.Create (with_fields to event))) else none
+fold_create event from to = when same fields_f from event.fields then some (Coalesced.Into (Operation.Create (with_fields to event))) else none
 
 -- the folded operation's bytes are the first n of the buffer
 pub record FoldedInto (n : ℕ) (b : List ℕ) (x : Option Coalesced) : Type 0 where

@@ -1,7 +1,7 @@
 -- Encoded values where they stand in a buffer, and the parts of it that are handed on. Assumes nothing.
 use Rattle.std.specs.Prelude.{ℕ, ◌+◌, ◌-◌, ◌≤◌, ◌≡◌, List, [], ◌++◌, leb, length, take, drop}
 use Rattle.format.specs.Format.{Format}
-use Rattle.model.specs.Maps.{if◌then◌else◌}
+use Rattle.model.specs.Maps.{when◌then◌else◌}
 
 -- the value's bytes stand at a place
 pub record StandsAt {A : Type 0} (f : Format A) (v : A) (b : List ℕ) (at : ℕ) : Type 0 where
@@ -15,7 +15,7 @@ pub record PartOf {A : Type 0} (f : Format A) (b : List ℕ) (at : ℕ) (part : 
 
 -- the bytes from one place to another, or none
 abbrev pub part_of : List ℕ → ℕ → ℕ → List ℕ
-part_of b from to = if (leb from to) then (if leb to (length b) then take (to - from) (drop from b) else []) else []
+part_of b from to = when (leb from to) then (when leb to (length b) then take (to - from) (drop from b) else []) else []
 
 -- the first n bytes of a buffer are x
 pub record Filled (x b : List ℕ) (n : ℕ) : Type 0 where

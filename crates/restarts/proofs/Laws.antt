@@ -11,7 +11,7 @@ use Rattle.tables.specs.Table.{text}
 use Rattle.model.specs.Event.{Text}
 use Rattle.model.specs.Seam.{ResourceId, Request}
 use Rattle.model.specs.Limits.{Limits, document01}
-use Rattle.model.specs.Maps.{if◌then◌else◌, map, keys, is_some}
+use Rattle.model.specs.Maps.{when◌then◌else◌, map, keys, is_some}
 use Rattle.model.specs.Formats.{resource_id}
 use Rattle.model.specs.State.{Map, Pass, Queue, Purpose, SyncState, with_in_flight}
 use Rattle.model.specs.Machine.{Machine, ok, ◌>>=◌, for_each, match◌none:◌some:◌, request, in_pass, with_state, set_in_flight, set_queue}
@@ -136,7 +136,7 @@ pass_closed R e = runs.is_held (in_pass resume_pass) (λ m h. go m m.state.pass 
 
 pub pass_listed : {w o w' o' : List ℕ} {p q : Progress} {v d : Bool} → Reads (λ s. is_some s.pass) w v → v ≡ true → Reads (λ s. is_some (pass_of s.pass).done) w d → d ≡ true
     → Does read_unread w o p q w' o' → Does (in_pass resume_pass) w o p q w' o'
-unfolding in_pass match◌none:◌some:◌ is_some pass_of resume_pass if◌then◌else◌ ◌>>=◌
+unfolding in_pass match◌none:◌some:◌ is_some pass_of resume_pass when◌then◌else◌ ◌>>=◌
 pass_listed R e S f D =
     runs.is_held (in_pass resume_pass) (λ m h. go m m.state.pass (sym e ∙ R.is m.state h.keeps) (sym f ∙ S.is m.state h.keeps)) D
   where
@@ -146,7 +146,7 @@ pass_listed R e S f D =
 
 pub pass_asks : {w o w₁ o₁ w' o' : List ℕ} {p q r : Progress} {v d : Bool} → Reads (λ s. is_some s.pass) w v → v ≡ true → Reads (λ s. is_some (pass_of s.pass).done) w d → d ≡ false
     → Does request_from w o p q w₁ o₁ → Does read_unread w₁ o₁ q r w' o' → Does (in_pass resume_pass) w o p r w' o'
-unfolding request_from in_pass match◌none:◌some:◌ is_some pass_of resume_pass if◌then◌else◌ ◌>>=◌
+unfolding request_from in_pass match◌none:◌some:◌ is_some pass_of resume_pass when◌then◌else◌ ◌>>=◌
 pass_asks R e S f D U =
     runs.is_held (in_pass resume_pass) (λ m h. go m m.state.pass refl (sym e ∙ R.is m.state h.keeps) (sym f ∙ S.is m.state h.keeps)) (runs.next D U)
   where

@@ -11,7 +11,7 @@ use borrow.Author.Tests.{le-leb, leb-true, leb-false, eq-eqb}
 use Rattle.format.specs.Format.{Format, Lawful, All, concat_map, repeated, ◌⊗◌, via, below, number, list, such, padded}
 use Rattle.format.proofs.FormatLaws.{pair_law, via_law, below_law, list_law, such_law, padded_law, true_T}
 use Rattle.format.proofs.SizeLaws.{Exactly, exactly_within, pair_exactly, via_exactly, such_exactly, below_exactly, number_exactly, padded_exactly, list_within}
-use Rattle.model.specs.Maps.{if◌then◌else◌, is_empty}
+use Rattle.model.specs.Maps.{when◌then◌else◌, is_empty}
 use Rattle.model.specs.WellFormed.{all}
 use Rattle.model.specs.Formats.{u64}
 use Rattle.model.specs.Layout.{table}
@@ -178,22 +178,22 @@ module _ (s : Sender) where
   allow k = (((k.eight, k.lanes), (rows_ok call_f_exactly calls s.out k.within k.out, k.at)), k.settled)
 
   none_waits : T (is_settled s) → (calls ≤ length s.out → ⊥) → (mill : ℕ) → lane mill s.lanes ≡ []
-  unfolding is_settled if◌then◌else◌ lane
+  unfolding is_settled when◌then◌else◌ lane
   none_waits t h = go (leb calls (length s.out)) refl t
     where
-      go : (b : Bool) → leb calls (length s.out) ≡ b → T (if b then eqb s.turn (after (last_mill s.out)) else all is_empty s.lanes) → (mill : ℕ) → get_or s.lanes mill [] ≡ []
+      go : (b : Bool) → leb calls (length s.out) ≡ b → T (when b then eqb s.turn (after (last_mill s.out)) else all is_empty s.lanes) → (mill : ℕ) → get_or s.lanes mill [] ≡ []
       go true e t = absurd (h (leb-true calls (length s.out) e))
       go false e t = all_get (λ (x : List ℕ). x ≡ []) [] refl s.lanes (empties s.lanes t)
 
   turned : T (is_settled s) → calls ≤ length s.out → s.turn ≡ after (last_mill s.out)
-  unfolding is_settled if◌then◌else◌
+  unfolding is_settled when◌then◌else◌
   turned t h = eqb→eq s.turn (after (last_mill s.out)) (rw (le-leb calls (length s.out) h) at t)
 
   is_settled_by : Settled s → T (is_settled s)
-  unfolding is_settled if◌then◌else◌ lane
+  unfolding is_settled when◌then◌else◌ lane
   is_settled_by k = go (leb calls (length s.out)) refl
     where
-      go : (b : Bool) → leb calls (length s.out) ≡ b → T (if b then eqb s.turn (after (last_mill s.out)) else all is_empty s.lanes)
+      go : (b : Bool) → leb calls (length s.out) ≡ b → T (when b then eqb s.turn (after (last_mill s.out)) else all is_empty s.lanes)
       go true e = true_T _ (eq-eqb s.turn (after (last_mill s.out)) (k.last (leb-true calls (length s.out) e)))
       go false e =
           let h : length s.out < calls = leb-false calls (length s.out) e in

@@ -8,7 +8,7 @@ use lib.ListN.{length, drop, get_or, drop_of_length-le}
 use borrow.Author.Tests.{eq-eqb, ne_eqb, le-leb, lt-leb, lt-ltb, le-ltb}
 use lib.Seq.{drop-cons}
 use lib.Dec.{ltb, eqb}
-use Rattle.model.specs.Maps.{if◌then◌else◌}
+use Rattle.model.specs.Maps.{when◌then◌else◌}
 use Rattle.model.specs.WellFormed.{all}
 use Rattle.sender_turns.specs.Sender.{mills, calls, lane_size, after}
 use Rattle.sender_turns.specs.declared.Lane.{Lane}
@@ -93,9 +93,9 @@ unfolding calls_ok
 calls_few out l r h n e = rw (le-leb out calls h, eq-eqb (length l) calls n) e
 
 pub settled_idle : (x : SenderStruct) (r : Bool) → x.out < calls → r ≡ all is_idle x.lanes → r ≡ settled_ok x
-unfolding settled_ok if◌then◌else◌
+unfolding settled_ok when◌then◌else◌
 settled_idle x r h e = rw (lt-ltb x.out calls h) e
 
 pub settled_full : (x : SenderStruct) (t : ℕ) → calls ≤ x.out → (at_last x < mills → t ≡ after (at_last x)) → at_last x < mills → eqb x.turn t ≡ settled_ok x
-unfolding settled_ok if◌then◌else◌
+unfolding settled_ok when◌then◌else◌
 settled_full x t h e k = rw (le-ltb x.out calls h, e k)

@@ -10,7 +10,7 @@ use lib.Seq.{length-take-le, drop-append_seam}
 use lib.Dec.{leb, ltb, eqb}
 use Rattle.format.specs.Format.{All}
 use Rattle.format.proofs.FormatLaws.{and_inv}
-use Rattle.model.specs.Maps.{if◌then◌else◌}
+use Rattle.model.specs.Maps.{when◌then◌else◌}
 use Rattle.model.specs.WellFormed.{all}
 use Rattle.sender_turns.specs.Sender.{Call, Sender, mills, calls, lane_size, lane, after}
 use Rattle.sender_turns.specs.Claims.{last_mill, Settled}
@@ -196,13 +196,13 @@ module _ (x : SenderStruct) (eight : length x.lanes ≡ mills) (four : length x.
     calls_back = held_calls.is ∙ ap (λ (n : ℕ). map call_of read.out ++ replicate n no_call) (ap₂ ◌-◌ four (sym out_long))
 
     idle : (calls ≤ x.out → ⊥) → (mill : ℕ) → lane mill read.lanes ≡ []
-    unfolding settled_ok if◌then◌else◌
+    unfolding settled_ok when◌then◌else◌
     idle h =
         let low : x.out < calls = omega arith in
         lanes_idle x.lanes (rw (lt-ltb x.out calls low) at last)
 
     last_granted : calls ≤ x.out → x.turn ≡ after (last_mill read.out)
-    unfolding settled_ok if◌then◌else◌ calls_of
+    unfolding settled_ok when◌then◌else◌ calls_of
     last_granted h =
         let all-out : x.out ≡ calls = let k = few in omega arith in
         let t : x.turn ≡ after (at_last x) = eqb-true _ _ (rw (le-ltb x.out calls h) at last) in
@@ -271,10 +271,10 @@ module _ (x : SenderStruct) (I : IsSender x) where
       rw I.is (eq-eqb _ _ (I.settled.last high ∙ ap after (sym m)))
 
   settled_passes : settled_ok x ≡ true
-  unfolding settled_ok if◌then◌else◌
+  unfolding settled_ok when◌then◌else◌
   settled_passes = go (ltb x.out calls) refl
     where
-      go : (b : Bool) → ltb x.out calls ≡ b → (if b then all is_idle x.lanes else eqb x.turn (after (at_last x))) ≡ true
+      go : (b : Bool) → ltb x.out calls ≡ b → (when b then all is_idle x.lanes else eqb x.turn (after (at_last x))) ≡ true
       go true e = idle_passes (ltb-true _ _ e)
       go false e = last_passes (ltb-false _ _ e)
 

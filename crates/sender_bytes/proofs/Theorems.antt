@@ -11,7 +11,7 @@ use lib.Dec.{leb}
 use borrow.Author.Tests.{eq-eqb}
 use Rattle.format.specs.Format.{All}
 use Rattle.format.proofs.WholeLaws.{whole_enc, whole_dec}
-use Rattle.model.specs.Maps.{if◌then◌else◌}
+use Rattle.model.specs.Maps.{when◌then◌else◌}
 use Rattle.model.specs.Machine.{match◌none:◌some:◌}
 use Rattle.model.proofs.Fitting.{all_append}
 use Rattle.sender_turns.specs.Sender.{Call, Sender, Use, Answer, mills, lane_size, fresh, lane, grant_all, with_lane, mill_of, take_use, used, sender_after, told_by, sender_over, told_over}
@@ -65,7 +65,7 @@ unfolding read_sender
 read_back s ok = whole_dec sender_f_law (sender_f.enc s) s ok refl
 
 used_is : (u : Use) (s : Sender) → sender_f.Ok s → used_bytes u (sender_f.enc s) ≡ returned (sender_f.enc s) (used u s)
-unfolding used_bytes if◌then◌else◌ match◌none:◌some:◌
+unfolding used_bytes when◌then◌else◌ match◌none:◌some:◌
 used_is u s ok = rw (eq-eqb (length (sender_f.enc s)) sender_length (ok-long s ok), read_back s ok)
 
 -- ---- what it returns
@@ -77,11 +77,11 @@ bytes_of s (Answer.Done t) = refl
 
 -- the grant that is told
 told_in : Bool × CallStruct → List Call
-told_in g = if g.0 then (g.1.mill, g.1.number) ∷ [] else []
+told_in g = when g.0 then (g.1.mill, g.1.number) ∷ [] else []
 
 -- one grant is told, and a use has no more
 grant_of : (b : List ℕ) (a : Answer) → length (told_by a) ≤ 1 → told_in (returned b a).grant ≡ told_by a
-unfolding told_in told_by returned refused one_told call_of if◌then◌else◌
+unfolding told_in told_by returned refused one_told call_of when◌then◌else◌
 grant_of b (Answer.Refused n) h = refl
 grant_of b (Answer.Done t) h = go t.grants h
   where
@@ -94,13 +94,13 @@ Code : ℕ → Type 0
 Code n = (n ≡ 0) ⊎ ((n ≡ 11) ⊎ (n ≡ 12))
 
 code_of : (b : List ℕ) (u : Use) (s : Sender) → Code (returned b (used u s)).code
-unfolding Code returned refused used take_use mill_of if◌then◌else◌
-code_of b u s = elim (leb mills (mill_of u)) as (λ c. Code (returned b (if c then Answer.Refused 11 else take_use u s)).code) [ true ↦ inr (inl refl) | false ↦ taken u ]
+unfolding Code returned refused used take_use mill_of when◌then◌else◌
+code_of b u s = elim (leb mills (mill_of u)) as (λ c. Code (returned b (when c then Answer.Refused 11 else take_use u s)).code) [ true ↦ inr (inl refl) | false ↦ taken u ]
   where
     taken : (u : Use) → Code (returned b (take_use u s)).code
     taken (Use.Enter mill number) =
         elim (leb lane_size (length (lane mill s.lanes)))
-        as (λ c. Code (returned b (if c then Answer.Refused 12 else Answer.Done (grant_all (with_lane mill (lane mill s.lanes ++ number ∷ []) s)))).code)
+        as (λ c. Code (returned b (when c then Answer.Refused 12 else Answer.Done (grant_all (with_lane mill (lane mill s.lanes ++ number ∷ []) s)))).code)
         [ true ↦ inr (inr refl) | false ↦ inl refl ]
     taken (Use.Reply mill number) = inl refl
     taken (Use.Resume mill) = inl refl

@@ -3,7 +3,7 @@
 use Rattle.std.specs.Prelude.{ℕ, ◌+◌, ◌*◌, ◌≡◌, List, [], Bool, length, leb, eqb}
 use Rattle.std.proofs.Math.Option.{Option}
 use Rattle.format.specs.Format.{Format, All, concat_map, repeated, ◌⊗◌, via, below, such, whole_of}
-use Rattle.model.specs.Maps.{if◌then◌else◌, is_empty}
+use Rattle.model.specs.Maps.{when◌then◌else◌, is_empty}
 use Rattle.model.specs.Machine.{match◌none:◌some:◌}
 use Rattle.model.specs.WellFormed.{all}
 use Rattle.model.specs.Formats.{u64}
@@ -52,7 +52,7 @@ sender_from s = (s.lanes, (s.out, s.turn))
 
 -- a use leaves either four calls out, the last of them the last granted, or nothing waiting
 unfoldable pub is_settled : Sender → Bool
-is_settled s = if leb calls (length s.out) then eqb s.turn (after (last_mill s.out)) else all is_empty s.lanes
+is_settled s = when leb calls (length s.out) then eqb s.turn (after (last_mill s.out)) else all is_empty s.lanes
 
 -- the bytes of the senders that uses lead to
 unfoldable pub sender_f : Format Sender
@@ -82,9 +82,9 @@ returned bytes (Answer.Done t) = record { code = 0; grant = one_told t.grants; b
 -- a use: refusal 1 for a wrong length, then 2 for bytes that are no sender's, then what the use of the sender answers. A refusal leaves the buffer as it was
 unfoldable pub used_bytes : Use → List ℕ → Returned
 used_bytes u bytes =
-    if eqb (length bytes) sender_length then (match read_sender bytes none: refused 2 bytes some: (λ s. returned bytes (used u s)))
+    when eqb (length bytes) sender_length then (match read_sender bytes none: refused 2 bytes some: (λ s. returned bytes (used u s)))
     else refused 1 bytes
 
 -- making a fresh sender: 1, and the buffer as it is, where the length is wrong
 unfoldable pub freshened : List ℕ → ℕ × List ℕ
-freshened bytes = if eqb (length bytes) sender_length then (0, sender_f.enc fresh) else (1, bytes)
+freshened bytes = when eqb (length bytes) sender_length then (0, sender_f.enc fresh) else (1, bytes)

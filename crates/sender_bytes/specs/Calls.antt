@@ -3,7 +3,7 @@
 use Rattle.std.specs.Prelude.{ℕ, ◌^◌, ◌≤◌, ◌<◌, ◌≡◌, ◌⊎◌, ◌↔◌, List, [], ◌∷◌, ◌++◌, map, length}
 use Rattle.std.proofs.Math.Option.{some}
 use Rattle.format.specs.Format.{All}
-use Rattle.model.specs.Maps.{if◌then◌else◌}
+use Rattle.model.specs.Maps.{when◌then◌else◌}
 use Rattle.sender_turns.specs.Sender.{Call, Sender, Use, mills, fresh, lane, sender_over, told_over}
 use Rattle.sender_turns.specs.Claims.{Waits, NoResume, Within, numbers_of, entered_over, carried, Reached}
 use Rattle.sender_bytes.specs.Bytes.{number_bytes, sender_length, sender_f, read_sender}
@@ -48,7 +48,7 @@ left b (c ∷ l) = left c.after l
 -- the grants that the answers tell, in their order
 unfoldable pub told : List Called → List Call
 told [] = []
-told (c ∷ l) = (if c.answer.granted then (c.answer.call.mill, c.answer.call.number) ∷ [] else []) ++ told l
+told (c ∷ l) = (when c.answer.granted then (c.answer.call.mill, c.answer.call.number) ∷ [] else []) ++ told l
 
 -- done, or refused for its mill or a full lane: not for the buffer
 abbrev pub Answered : Called → Type 0

@@ -1,7 +1,7 @@
 -- What the functions test of a struct: together, that it is a sender's that uses lead to. That an array has its length is among the tests, and always holds.
 -- Assumes nothing.
 use Rattle.std.specs.Prelude.{ℕ, ◌+◌, ◌-◌, List, [], ◌∷◌, Bool, true, false, ◌&&◌, length, drop, get_or, leb, ltb, eqb}
-use Rattle.model.specs.Maps.{if◌then◌else◌}
+use Rattle.model.specs.Maps.{when◌then◌else◌}
 use Rattle.model.specs.WellFormed.{all}
 use Rattle.sender_turns.specs.Sender.{mills, calls, lane_size, after}
 use Rattle.sender_turns.specs.Laid.{no_call}
@@ -41,4 +41,4 @@ at_last x = (get_or x.calls (calls - 1) no_call).mill
 
 -- with all calls out the last of them is the last granted; else nothing waits
 unfoldable pub settled_ok : SenderStruct → Bool
-settled_ok x = if ltb x.out calls then all is_idle x.lanes else eqb x.turn (after (at_last x))
+settled_ok x = when ltb x.out calls then all is_idle x.lanes else eqb x.turn (after (at_last x))

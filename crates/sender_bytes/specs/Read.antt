@@ -2,7 +2,7 @@
 use Rattle.std.specs.Prelude.{ℕ, zero, suc, ◌+◌, ◌*◌, ◌≡◌, List, [], ◌∷◌, ◌++◌, length, take, drop, get_or, eqb}
 use Rattle.std.proofs.Math.Option.{some}
 use Rattle.format.specs.Format.{concat_map}
-use Rattle.model.specs.Maps.{if◌then◌else◌}
+use Rattle.model.specs.Maps.{when◌then◌else◌}
 use Rattle.model.specs.Machine.{match◌none:◌some:◌}
 use Rattle.numbers.specs.Big.{from_be, to_be}
 use Rattle.sender_turns.specs.Sender.{Sender, Use, mills, calls, lane_size}
@@ -64,7 +64,7 @@ pub record IsSender (x : SenderStruct) : Type 0 where
 
 -- why these bytes hold no sender: 1 or 2; 0 where they hold one
 unfoldable pub refusal : List ℕ → ℕ
-refusal b = if eqb (length b) sender_length then (match read_sender b none: 2 some: (λ s. 0)) else 1
+refusal b = when eqb (length b) sender_length then (match read_sender b none: 2 some: (λ s. 0)) else 1
 
 pub record HeldIn (b : List ℕ) (r : Held) : Type 0 where
   pub is : r.code ≡ refusal b

@@ -7,7 +7,7 @@ use mathlib.Core.Bool.{Bool, true, false, not}
 use lib.ListN.{length, take, get_or, replicate, get_or-map}
 use lib.Seq.{take-append-le, take_all}
 use lib.Dec.{leb, T}
-use Rattle.model.specs.Maps.{if◌then◌else◌, is_empty}
+use Rattle.model.specs.Maps.{when◌then◌else◌, is_empty}
 use Rattle.sender_turns.specs.Sender.{Call, Sender, Use, Answer, mills, calls, lane_size, fresh, lane, grant_all, with_lane, mill_of, take_use, used, sender_after, told_by, sender_over, told_over}
 use Rattle.sender_turns.specs.Claims.{Waits, entered, entered_over, Settled}
 use Rattle.sender_turns.specs.Laid.{lane_of, call_of, laid_out, one_told, answering, told_as}
@@ -45,22 +45,22 @@ as_sender s (Answer.Done t) = refl
 
 -- the grant that an answer tells
 told_in : ToldStruct → List Call
-told_in r = if r.granted then (r.call.mill, r.call.number) ∷ [] else []
+told_in r = when r.granted then (r.call.mill, r.call.number) ∷ [] else []
 
 -- an answer tells one grant, and a use has no more
 as_told : (s : Sender) (a : Answer) → length (told_by a) ≤ 1 → told_in (told_as s a) ≡ told_by a
-unfolding told_in told_as told_by answering one_told call_of if◌then◌else◌
+unfolding told_in told_as told_by answering one_told call_of when◌then◌else◌
 as_told s (Answer.Refused n) h = refl
 as_told s (Answer.Done t) h = go t.grants h
   where
-    go : (l : List Call) → length l ≤ 1 → (if (one_told l).0 then ((one_told l).1.mill, (one_told l).1.number) ∷ [] else []) ≡ l
+    go : (l : List Call) → length l ≤ 1 → (when (one_told l).0 then ((one_told l).1.mill, (one_told l).1.number) ∷ [] else []) ≡ l
     go [] h = refl
     go (c ∷ []) h = refl
     go (c ∷ d ∷ l) h = absurd (omega arith)
 
 -- a refusal is not 0
 as_entered : (mill : ℕ) (u : Use) (s : Sender) → entered_by mill u (told_as s (used u s)).code ≡ entered mill u (used u s)
-unfolding entered_by entered told_as answering used take_use mill_of if◌then◌else◌
+unfolding entered_by entered told_as answering used take_use mill_of when◌then◌else◌
 as_entered mill (Use.Reply m n) s = refl
 as_entered mill (Use.Resume m) s = refl
 as_entered mill (Use.Enter m n) s = go (leb mills m) (leb lane_size (length (lane m s.lanes)))
@@ -68,7 +68,7 @@ as_entered mill (Use.Enter m n) s = go (leb mills m) (leb lane_size (length (lan
     Same : Answer → Type 0
     Same a = entered_by mill (Use.Enter m n) (told_as s a).code ≡ entered mill (Use.Enter m n) a
 
-    go : (b c : Bool) → Same (if b then Answer.Refused 11 else if c then Answer.Refused 12 else Answer.Done (grant_all (with_lane m (lane m s.lanes ++ n ∷ []) s)))
+    go : (b c : Bool) → Same (when b then Answer.Refused 11 else when c then Answer.Refused 12 else Answer.Done (grant_all (with_lane m (lane m s.lanes ++ n ∷ []) s)))
     go true c = refl
     go false true = refl
     go false false = refl

@@ -7,7 +7,7 @@ use mathlib.Core.Option.{Option, none, some}
 use mathlib.Core.Bool.{Bool, true, false, not, ◌||◌}
 use lib.ListN.{length, take, set}
 use lib.Dec.{leb, eqb, eqb→eq, eqb_refl, T}
-use Rattle.model.specs.Maps.{if◌then◌else◌, any, is_empty}
+use Rattle.model.specs.Maps.{when◌then◌else◌, any, is_empty}
 use Rattle.sender_turns.specs.Sender.{Call, Sender, Use, Told, Answer, mills, calls, lane_size, fresh, lane, after, next_mill, first_of, rest_of, granted, telling, grants, grant_all, same_call, freed, with_lane, with_out, mill_of, take_use, used, sender_after, told_by, sender_over, told_over}
 use Rattle.sender_turns.specs.Claims.{resumes, for_mill, Waits, NoResume, Within, FairTurns, EightIsExact}
 use Rattle.sender_turns.proofs.Turns.{Gap, Apart, Found, itself, before, found, gap_of, after_low, not_eq, lane_other, lane_same}
@@ -138,20 +138,20 @@ module _ (m : ℕ) where
     Answered d s a = Met d (told_by a) (sender_after s a)
 
     taken_meets : (u : Use) (d : ℕ) (s : Sender) → T (not (resumes m u)) → Near d s → Answered d s (take_use u s)
-    unfolding take_use told_by sender_after if◌then◌else◌ resumes Answered Granted
+    unfolding take_use told_by sender_after when◌then◌else◌ resumes Answered Granted
     taken_meets (Use.Enter mill number) d s r n = go (leb lane_size (length (lane mill s.lanes)))
       where
-        go : (c : Bool) → Answered d s (if c then Answer.Refused 12 else Answer.Done (grant_all (with_lane mill (lane mill s.lanes ++ number ∷ []) s)))
+        go : (c : Bool) → Answered d s (when c then Answer.Refused 12 else Answer.Done (grant_all (with_lane mill (lane mill s.lanes ++ number ∷ []) s)))
         go true = none_yet n
         go false = all_meet (put_near mill _ n (λ e. snoc_waits (lane mill s.lanes) number))
     taken_meets (Use.Reply mill number) d s r n = all_meet (freed_near (freed (mill, number) s.out) n)
     taken_meets (Use.Resume mill) d s r n = all_meet (put_near mill [] n (λ e. absurd (not_both (eqb m mill) (rw e (eqb_refl m)) r)))
 
     use_meets : (u : Use) (d : ℕ) (s : Sender) → T (not (resumes m u)) → Near d s → Answered d s (used u s)
-    unfolding used if◌then◌else◌ told_by sender_after Answered
+    unfolding used when◌then◌else◌ told_by sender_after Answered
     use_meets u d s r n = go (leb mills (mill_of u))
       where
-        go : (c : Bool) → Answered d s (if c then Answer.Refused 11 else take_use u s)
+        go : (c : Bool) → Answered d s (when c then Answer.Refused 11 else take_use u s)
         go true = none_yet n
         go false = taken_meets u d s r n
 
@@ -181,7 +181,7 @@ fair_turns earlier uses mill q w r n = fair_from (sender_over fresh earlier) use
 
 -- mill 0 waits behind its own four calls, and each of the others is asked before it is again
 pub eight_is_exact : EightIsExact
-unfolding fresh lane after next_mill first_of rest_of granted telling grants grant_all same_call freed with_lane with_out mill_of take_use used sender_after told_by sender_over told_over resumes for_mill if◌then◌else◌ any is_empty
+unfolding fresh lane after next_mill first_of rest_of granted telling grants grant_all same_call freed with_lane with_out mill_of take_use used sender_after told_by sender_over told_over resumes for_mill when◌then◌else◌ any is_empty
 eight_is_exact = record {
   before = Use.Enter 0 1 ∷ Use.Enter 0 2 ∷ Use.Enter 0 3 ∷ Use.Enter 0 4 ∷ Use.Enter 0 5
       ∷ Use.Enter 1 1 ∷ Use.Enter 2 1 ∷ Use.Enter 3 1 ∷ Use.Enter 4 1 ∷ Use.Enter 5 1 ∷ Use.Enter 6 1 ∷ Use.Enter 7 1 ∷ [];

@@ -7,7 +7,7 @@ use mathlib.Core.Bool.{true, false, not}
 use lib.ListN.{length, set, replicate}
 use lib.Dec.{leb, T}
 use Rattle.format.specs.Format.{All}
-use Rattle.model.specs.Maps.{if◌then◌else◌, is_empty}
+use Rattle.model.specs.Maps.{when◌then◌else◌, is_empty}
 use Rattle.sender_turns.specs.Sender.{Call, Sender, Use, Told, Answer, mills, calls, lane_size, fresh, lane, next_mill, first_of, rest_of, granted, telling, grants, grant_all}
 use Rattle.sender_turns.specs.Sender.{freed, with_lane, with_out, mill_of, take_use, used, sender_after, sender_over}
 use Rattle.sender_turns.specs.Claims.{carried, Numbered}
@@ -77,13 +77,13 @@ module _ (bound : ℕ) where
   reply_numbered s c p = all_numbered (with_out (freed c s.out) s) (record { waiting = p.waiting; out = all_freed (λ c. c.1 < bound) c s.out p.out })
 
   pub used_numbered : (s : Sender) (u : Use) → Numbered bound s → Low (carried u) → Numbered bound (sender_after s (used u s))
-  unfolding used if◌then◌else◌ sender_after take_use carried
-  used_numbered s u p q = elim (leb mills (mill_of u)) as (λ c. Numbered bound (sender_after s (if c then Answer.Refused 11 else take_use u s))) [ true ↦ p | false ↦ taken u q ]
+  unfolding used when◌then◌else◌ sender_after take_use carried
+  used_numbered s u p q = elim (leb mills (mill_of u)) as (λ c. Numbered bound (sender_after s (when c then Answer.Refused 11 else take_use u s))) [ true ↦ p | false ↦ taken u q ]
     where
       taken : (u : Use) → Low (carried u) → Numbered bound (sender_after s (take_use u s))
       taken (Use.Enter mill number) q =
           let l : List ℕ = lane mill s.lanes in
-          elim (leb lane_size (length l)) as (λ c. Numbered bound (sender_after s (if c then Answer.Refused 12 else Answer.Done (grant_all (with_lane mill (l ++ number ∷ []) s)))))
+          elim (leb lane_size (length l)) as (λ c. Numbered bound (sender_after s (when c then Answer.Refused 12 else Answer.Done (grant_all (with_lane mill (l ++ number ∷ []) s)))))
           [ true ↦ p | false ↦ put_numbered s mill (l ++ number ∷ []) p (all_append (λ n. n < bound) l (number ∷ []) (lane_low mill s.lanes p.waiting) q) ]
       taken (Use.Reply mill number) q = reply_numbered s (mill, number) p
       taken (Use.Resume mill) q = put_numbered s mill [] p tt

@@ -7,7 +7,7 @@ use mathlib.Core.Option.{Option, none, some}
 use mathlib.Core.Bool.{Bool, true, false, not}
 use lib.ListN.{length, set}
 use lib.Dec.{leb, leb→le, eqb, eqb→eq, T}
-use Rattle.model.specs.Maps.{if◌then◌else◌, filter_map, is_empty}
+use Rattle.model.specs.Maps.{when◌then◌else◌, filter_map, is_empty}
 use Rattle.sender_turns.specs.Sender.{Call, Sender, Use, Told, Answer, mills, calls, lane_size, fresh, lane, after, next_mill, first_of, rest_of, granted, telling, grants, grant_all, freed, with_lane, with_out, mill_of, take_use, used, sender_after, told_by, sender_over, told_over}
 use Rattle.sender_turns.specs.Claims.{resumes, for_mill, NoResume, entered, left_of, numbers_of, entered_over, Settled, OrderKept, OrderKeptOver, AloneAllFour}
 use Rattle.sender_turns.proofs.Turns.{Waiting, not_eq, lane_other, lane_same, set_if, whole, next_waits}
@@ -26,23 +26,23 @@ kept_append none l r = refl
 kept_append (some n) l r = refl
 
 numbers_if : (mill g n : ℕ) (told : List Call) (c : Bool) → eqb mill g ≡ c
-    → numbers_of mill ((g, n) ∷ told) ≡ (if c then n ∷ numbers_of mill told else numbers_of mill told)
-unfolding numbers_of filter_map if◌then◌else◌ for_mill kept
-numbers_if mill g n told true e = ap (λ (c : Bool). kept (if c then some n else none) (numbers_of mill told)) e
-numbers_if mill g n told false e = ap (λ (c : Bool). kept (if c then some n else none) (numbers_of mill told)) e
+    → numbers_of mill ((g, n) ∷ told) ≡ (when c then n ∷ numbers_of mill told else numbers_of mill told)
+unfolding numbers_of filter_map when◌then◌else◌ for_mill kept
+numbers_if mill g n told true e = ap (λ (c : Bool). kept (when c then some n else none) (numbers_of mill told)) e
+numbers_if mill g n told false e = ap (λ (c : Bool). kept (when c then some n else none) (numbers_of mill told)) e
 
 numbers_append : (mill : ℕ) (a b : List Call) → numbers_of mill (a ++ b) ≡ numbers_of mill a ++ numbers_of mill b
 unfolding numbers_of filter_map kept
 numbers_append mill [] b = refl
 numbers_append mill (c ∷ a) b =
-    let o : Option ℕ = if for_mill mill c then some c.1 else none in
+    let o : Option ℕ = when for_mill mill c then some c.1 else none in
     ap (kept o) (numbers_append mill a b) ∙ sym (kept_append o (numbers_of mill a) (numbers_of mill b))
 
 -- ---- grants take a lane's requests from its front
 
 one_order : (s : Sender) (g mill : ℕ) (t : Told) → Waiting g s.lanes → numbers_of mill t.grants ++ lane mill t.sender.lanes ≡ lane mill (granted g s).lanes
     → numbers_of mill ((g, first_of (lane g s.lanes)) ∷ t.grants) ++ lane mill t.sender.lanes ≡ lane mill s.lanes
-unfolding granted if◌then◌else◌
+unfolding granted when◌then◌else◌
 one_order s g mill t w later = go (eqb mill g) refl
   where
     go : (c : Bool) → eqb mill g ≡ c → numbers_of mill ((g, first_of (lane g s.lanes)) ∷ t.grants) ++ lane mill t.sender.lanes ≡ lane mill s.lanes
@@ -81,18 +81,18 @@ module _ (s : Sender) (mill : ℕ) (low : mill < mills) (eight : length s.lanes 
   unfolding Order grant_all told_by sender_after
   done_order u s' e = grants_order (calls - length s'.out) s' mill ∙ e
 
-  put_order : (m : ℕ) (l : List ℕ) → lane mill (set s.lanes m l) ≡ (if eqb mill m then l else lane mill s.lanes)
+  put_order : (m : ℕ) (l : List ℕ) → lane mill (set s.lanes m l) ≡ (when eqb mill m then l else lane mill s.lanes)
   put_order m l = set_if mill m l s.lanes (omega arith) (eqb mill m) refl
 
   enter_order : (m n : ℕ) → Order (Use.Enter m n) (take_use (Use.Enter m n) s)
-  unfolding Order take_use if◌then◌else◌ with_lane left_of entered numbers_of filter_map told_by sender_after
+  unfolding Order take_use when◌then◌else◌ with_lane left_of entered numbers_of filter_map told_by sender_after
   enter_order m n = go (leb lane_size (length (lane m s.lanes)))
     where
-      behind : (c : Bool) → eqb mill m ≡ c → (if c then lane m s.lanes ++ n ∷ [] else lane mill s.lanes) ≡ lane mill s.lanes ++ (if c then n ∷ [] else [])
+      behind : (c : Bool) → eqb mill m ≡ c → (when c then lane m s.lanes ++ n ∷ [] else lane mill s.lanes) ≡ lane mill s.lanes ++ (when c then n ∷ [] else [])
       behind true e = ap (λ (k : ℕ). lane k s.lanes ++ n ∷ []) (sym (eqb→eq mill m (rw e tt)))
       behind false e = sym (append-nil (lane mill s.lanes))
 
-      go : (c : Bool) → Order (Use.Enter m n) (if c then Answer.Refused 12 else Answer.Done (grant_all (with_lane m (lane m s.lanes ++ n ∷ []) s)))
+      go : (c : Bool) → Order (Use.Enter m n) (when c then Answer.Refused 12 else Answer.Done (grant_all (with_lane m (lane m s.lanes ++ n ∷ []) s)))
       go true = sym (append-nil (lane mill s.lanes))
       go false = done_order (Use.Enter m n) (with_lane m (lane m s.lanes ++ n ∷ []) s) (put_order m (lane m s.lanes ++ n ∷ []) ∙ behind (eqb mill m) refl)
 
@@ -100,24 +100,24 @@ module _ (s : Sender) (mill : ℕ) (low : mill < mills) (eight : length s.lanes 
   unfolding take_use with_lane with_out left_of entered
   taken_order (Use.Enter m n) = enter_order m n
   taken_order (Use.Reply m n) = done_order (Use.Reply m n) (with_out (freed (m, n) s.out) s) (sym (append-nil (lane mill s.lanes)))
-  taken_order (Use.Resume m) = done_order (Use.Resume m) (with_lane m [] s) (put_order m [] ∙ sym (append-nil (if eqb mill m then [] else lane mill s.lanes)))
+  taken_order (Use.Resume m) = done_order (Use.Resume m) (with_lane m [] s) (put_order m [] ∙ sym (append-nil (when eqb mill m then [] else lane mill s.lanes)))
 
   -- a use of a mill that is not there leaves every lane
   refused_order : (u : Use) → mills ≤ mill_of u → Order u (Answer.Refused 11)
-  unfolding Order told_by sender_after mill_of left_of entered numbers_of filter_map if◌then◌else◌
+  unfolding Order told_by sender_after mill_of left_of entered numbers_of filter_map when◌then◌else◌
   refused_order (Use.Enter m n) h = sym (append-nil (lane mill s.lanes))
   refused_order (Use.Reply m n) h = sym (append-nil (lane mill s.lanes))
   refused_order (Use.Resume m) h = go (eqb mill m) refl
     where
-      go : (c : Bool) → eqb mill m ≡ c → lane mill s.lanes ≡ (if c then [] else lane mill s.lanes) ++ []
+      go : (c : Bool) → eqb mill m ≡ c → lane mill s.lanes ≡ (when c then [] else lane mill s.lanes) ++ []
       go true e = absurd (omega (arith, eqb→eq mill m (rw e tt)))
       go false e = sym (append-nil (lane mill s.lanes))
 
   used_order : (u : Use) → Order u (used u s)
-  unfolding used if◌then◌else◌
+  unfolding used when◌then◌else◌
   used_order u = go (leb mills (mill_of u)) refl
     where
-      go : (c : Bool) → leb mills (mill_of u) ≡ c → Order u (if c then Answer.Refused 11 else take_use u s)
+      go : (c : Bool) → leb mills (mill_of u) ≡ c → Order u (when c then Answer.Refused 11 else take_use u s)
       go true e = refused_order u (leb→le mills (mill_of u) (rw e tt))
       go false e = taken_order u
 
@@ -128,12 +128,12 @@ order_kept s u mill low eight = used_order s mill low eight u
 -- ---- lists of uses
 
 left_whole : (mill : ℕ) (u : Use) (l : List ℕ) → T (not (resumes mill u)) → left_of mill u l ≡ l
-unfolding left_of resumes if◌then◌else◌
+unfolding left_of resumes when◌then◌else◌
 left_whole mill (Use.Enter m n) l r = refl
 left_whole mill (Use.Reply m n) l r = refl
 left_whole mill (Use.Resume m) l r = go (eqb mill m) r
   where
-    go : (c : Bool) → T (not c) → (if c then [] else l) ≡ l
+    go : (c : Bool) → T (not c) → (when c then [] else l) ≡ l
     go true r = absurd r
     go false r = refl
 
@@ -166,7 +166,7 @@ order_kept_over earlier uses mill low r = order_from uses (sender_over fresh ear
 -- ---- a mill alone
 
 pub alone_all_four : AloneAllFour
-unfolding told_over told_by used take_use grant_all grants next_mill lane granted telling first_of rest_of after with_lane sender_after if◌then◌else◌ is_empty fresh mill_of
+unfolding told_over told_by used take_use grant_all grants next_mill lane granted telling first_of rest_of after with_lane sender_after when◌then◌else◌ is_empty fresh mill_of
 alone_all_four zero p a b c d = refl
 alone_all_four (suc zero) p a b c d = refl
 alone_all_four (suc (suc zero)) p a b c d = refl

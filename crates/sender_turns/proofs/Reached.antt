@@ -8,7 +8,7 @@ use lib.ListN.{length, set, replicate, length-append, get_or-replicate}
 use lib.Seq.{append_snoc, get_or_at, set_at, ext_get_or}
 use lib.Dec.{eqb, eqb→eq, eqb_refl}
 use Rattle.format.specs.Format.{All}
-use Rattle.model.specs.Maps.{if◌then◌else◌}
+use Rattle.model.specs.Maps.{when◌then◌else◌}
 use Rattle.sender_turns.specs.Sender.{Call, Sender, Use, Told, mills, calls, lane_size, fresh, lane, after, same_call, freed, with_lane, with_out, mill_of, take_use, used, sender_after, sender_over}
 use Rattle.sender_turns.specs.Claims.{last_mill, Settled, carried, Reached, Numbered, SettledIsReached}
 use Rattle.sender_turns.proofs.Turns.{is_true, not_eq}
@@ -64,11 +64,11 @@ record Prior (t : ℕ) : Type 0 where
   is : after mill ≡ t
 
 abbrev prior : (t : ℕ) → t < mills → Prior t
-unfolding after if◌then◌else◌
+unfolding after when◌then◌else◌
 prior zero h = record { mill = mills - 1; low = omega arith; is = refl }
 prior (suc t) h = record { mill = t; low = omega arith; is = go (eqb (t + 1) mills) refl }
   where
-    go : (c : Bool) → eqb (t + 1) mills ≡ c → (if c then 0 else t + 1) ≡ suc t
+    go : (c : Bool) → eqb (t + 1) mills ≡ c → (when c then 0 else t + 1) ≡ suc t
     go true e = absurd (omega (arith, eqb→eq (t + 1) mills (rw e tt)))
     go false e = omega arith
 
@@ -109,7 +109,7 @@ new (suc far) n out h = go (look n out) (new far (suc n))
         record { number = r.number; from = omega (arith, r.from); to = omega (arith, r.to); unlike = f r.number r.from r.unlike }
 
 freed_new : (c : Call) (out : List Call) → Unlike c.1 out → freed c (out ++ c ∷ []) ≡ out
-unfolding freed if◌then◌else◌ same_call
+unfolding freed when◌then◌else◌ same_call
 freed_new c [] h =
     let a : eqb c.0 c.0 ≡ true = is_true (eqb_refl c.0) in
     let b : eqb c.1 c.1 ≡ true = is_true (eqb_refl c.1) in
@@ -132,7 +132,7 @@ unfolding lane
 all_empty lanes e f = ext_get_or [] (replicate mills []) lanes (sym e) (λ m h. get_or-replicate mills m [] [] h ∙ sym (f m))
 
 reply_last : (s : Sender) (c : Call) → c.0 < mills → ((m : ℕ) → lane m s.lanes ≡ []) → sender_over s (Use.Reply c.0 c.1 ∷ []) ≡ with_out (freed c s.out) s
-unfolding sender_over used take_use mill_of if◌then◌else◌ sender_after with_out
+unfolding sender_over used take_use mill_of when◌then◌else◌ sender_after with_out
 reply_last s c p f = rw (low_leb mills c.0 p) (ap (λ (t : Told). t.sender) (empty_idle (with_out (freed c s.out) s) f))
 
 reached_few : (bound : ℕ) → calls ≤ bound → (s : Sender) → Settled s → Below bound s.out → length s.out < calls → ((m : ℕ) → lane m s.lanes ≡ []) → Reached bound s
@@ -162,7 +162,7 @@ reached_few bound b s w o h f =
 
 enter_full : (s : Sender) (m n : ℕ) → calls ≤ length s.out → m < mills → length (lane m s.lanes) < lane_size
     → sender_after s (used (Use.Enter m n) s) ≡ with_lane m (lane m s.lanes ++ n ∷ []) s
-unfolding used take_use mill_of if◌then◌else◌ sender_after with_lane
+unfolding used take_use mill_of when◌then◌else◌ sender_after with_lane
 enter_full s m n h p q = rw (low_leb mills m p, low_leb lane_size (length (lane m s.lanes)) q) (ap (λ (t : Told). t.sender) (full_idle (with_lane m (lane m s.lanes ++ n ∷ []) s) h))
 
 -- a lane's requests, the oldest first

@@ -9,7 +9,7 @@ use lib.ListN.{length, set, replicate, get_or-replicate, length-append, length-s
 use lib.Seq.{set-set, set-get_or, set_out}
 use lib.Dec.{leb, leb→le, nleb→lt, T}
 use Rattle.format.specs.Format.{All}
-use Rattle.model.specs.Maps.{if◌then◌else◌, any, is_empty}
+use Rattle.model.specs.Maps.{when◌then◌else◌, any, is_empty}
 use Rattle.sender_turns.specs.Sender.{Call, Sender, Use, Told, Answer, mills, calls, lane_size, fresh, lane, after, next_mill}
 use Rattle.sender_turns.specs.Sender.{first_of, rest_of, granted, telling, grants, grant_all, same_call, freed, with_lane, with_out, mill_of, take_use, used, sender_after, told_by, sender_over}
 use Rattle.sender_turns.specs.Claims.{last_mill, Settled, StaysSettled, OneGrant, UnknownReply, ResumeEmpties, GrantedAtOnce}
@@ -43,34 +43,34 @@ all_append P [] b p q = q
 all_append P (x ∷ a) b p q = (p.0, all_append P a b p.1 q)
 
 pub all_freed : (P : Call → Type 0) (c : Call) (out : List Call) → All P out → All P (freed c out)
-unfolding freed if◌then◌else◌
+unfolding freed when◌then◌else◌
 all_freed P c [] p = p
-all_freed P c (x ∷ out) p = elim (same_call c x) as (λ b. All P (if b then out else x ∷ freed c out)) [ true ↦ p.1 | false ↦ (p.0, all_freed P c out p.1) ]
+all_freed P c (x ∷ out) p = elim (same_call c x) as (λ b. All P (when b then out else x ∷ freed c out)) [ true ↦ p.1 | false ↦ (p.0, all_freed P c out p.1) ]
 
 pub freed_shorter : (c : Call) (out : List Call) → length (freed c out) ≤ length out
-unfolding freed if◌then◌else◌
+unfolding freed when◌then◌else◌
 freed_shorter c [] = omega arith
-freed_shorter c (x ∷ out) = elim (same_call c x) as (λ b. length (if b then out else x ∷ freed c out) ≤ suc (length out))
+freed_shorter c (x ∷ out) = elim (same_call c x) as (λ b. length (when b then out else x ∷ freed c out) ≤ suc (length out))
     [ true ↦ omega arith | false ↦ omega (arith, freed_shorter c out) ]
 
 pub freed_one : (c : Call) (out : List Call) → length out ≤ suc (length (freed c out))
-unfolding freed if◌then◌else◌
+unfolding freed when◌then◌else◌
 freed_one c [] = omega arith
-freed_one c (x ∷ out) = elim (same_call c x) as (λ b. suc (length out) ≤ suc (length (if b then out else x ∷ freed c out)))
+freed_one c (x ∷ out) = elim (same_call c x) as (λ b. suc (length out) ≤ suc (length (when b then out else x ∷ freed c out)))
     [ true ↦ omega arith | false ↦ omega (arith, freed_one c out) ]
 
 -- where as many are left, nothing was freed
 pub freed_none : (c : Call) (out : List Call) → length out ≤ length (freed c out) → freed c out ≡ out
-unfolding freed if◌then◌else◌
+unfolding freed when◌then◌else◌
 freed_none c [] h = refl
-freed_none c (x ∷ out) h = elim (same_call c x) as (λ b. suc (length out) ≤ length (if b then out else x ∷ freed c out) → (if b then out else x ∷ freed c out) ≡ x ∷ out)
+freed_none c (x ∷ out) h = elim (same_call c x) as (λ b. suc (length out) ≤ length (when b then out else x ∷ freed c out) → (when b then out else x ∷ freed c out) ≡ x ∷ out)
     [ true ↦ λ h. absurd (omega arith) | false ↦ λ h. ap (λ (l : List Call). x ∷ l) (freed_none c out (omega arith)) ] h
 
 -- a call that is not out frees nothing
 freed_unknown : (c : Call) (out : List Call) → T (not (any (same_call c) out)) → freed c out ≡ out
-unfolding freed if◌then◌else◌ any
+unfolding freed when◌then◌else◌ any
 freed_unknown c [] h = refl
-freed_unknown c (x ∷ out) h = elim (same_call c x) as (λ b. T (not (b || any (same_call c) out)) → (if b then out else x ∷ freed c out) ≡ x ∷ out)
+freed_unknown c (x ∷ out) h = elim (same_call c x) as (λ b. T (not (b || any (same_call c) out)) → (when b then out else x ∷ freed c out) ≡ x ∷ out)
     [ true ↦ λ h. absurd h | false ↦ λ h. ap (λ (l : List Call). x ∷ l) (freed_unknown c out h) ] h
 
 pub last_append : (a : List Call) (c : Call) (b : List Call) → last_mill (a ++ c ∷ b) ≡ last_mill (c ∷ b)
@@ -226,11 +226,11 @@ reply_settled s c w = granted_settled (with_out (freed c s.out) s) (ready_reply 
     w.last (rw same at h) ∙ ap (λ (out : List Call). after (last_mill out)) (sym same))
 
 pub stays_settled : StaysSettled
-unfolding used if◌then◌else◌ sender_after take_use
-stays_settled s w u = elim (leb mills (mill_of u)) as (λ c. Settled (sender_after s (if c then Answer.Refused 11 else take_use u s))) [ true ↦ w | false ↦ taken u ]
+unfolding used when◌then◌else◌ sender_after take_use
+stays_settled s w u = elim (leb mills (mill_of u)) as (λ c. Settled (sender_after s (when c then Answer.Refused 11 else take_use u s))) [ true ↦ w | false ↦ taken u ]
   where
     room : (c : Bool) (mill number : ℕ) → leb lane_size (length (lane mill s.lanes)) ≡ c
-        → Settled (sender_after s (if c then Answer.Refused 12 else Answer.Done (grant_all (with_lane mill (lane mill s.lanes ++ number ∷ []) s))))
+        → Settled (sender_after s (when c then Answer.Refused 12 else Answer.Done (grant_all (with_lane mill (lane mill s.lanes ++ number ∷ []) s))))
     room true mill number e = w
     room false mill number e = put_settled s mill (lane mill s.lanes ++ number ∷ []) w
         (omega (arith, length-append (lane mill s.lanes) (number ∷ []), nleb→lt lane_size (length (lane mill s.lanes)) (rw e tt)))
@@ -294,11 +294,11 @@ idle_resume s mill w = busy s w (full_idle (with_lane mill [] s)) (λ h f. empty
 -- ---- what frees nothing
 
 pub unknown_reply : UnknownReply
-unfolding used take_use mill_of if◌then◌else◌ with_out
+unfolding used take_use mill_of when◌then◌else◌ with_out
 unknown_reply s w mill number q h = rw (low_leb mills mill q, freed_unknown (mill, number) s.out h) (ap Answer.Done (idle s w))
 
 pub resume_empties : ResumeEmpties
-unfolding used take_use mill_of if◌then◌else◌ with_lane
+unfolding used take_use mill_of when◌then◌else◌ with_lane
 resume_empties s w mill q = rw (low_leb mills mill q) (ap Answer.Done (idle_resume s mill w))
 
 -- ---- a request that enters while fewer than four are out
@@ -336,7 +336,7 @@ enter_granted s mill number w q h =
     rw (f mill, free, next, grants, here, back, rest)
 
 pub granted_at_once : GrantedAtOnce
-unfolding used take_use mill_of if◌then◌else◌
+unfolding used take_use mill_of when◌then◌else◌
 granted_at_once s w mill number q h =
     let f : lane mill s.lanes ≡ [] = w.none_possible (λ k. absurd (omega arith)) mill in
     let room : leb lane_size (length (lane mill s.lanes)) ≡ false = low_leb lane_size (length (lane mill s.lanes)) (omega (arith, ap length f)) in
@@ -371,12 +371,12 @@ pub one_resume : (s : Sender) (mill : ℕ) → Settled s → length (grant_all (
 one_resume s mill w = omega (arith, ap (λ (t : Told). length t.grants) (idle_resume s mill w))
 
 pub one_grant : OneGrant
-unfolding used if◌then◌else◌ told_by take_use
-one_grant s w u = elim (leb mills (mill_of u)) as (λ c. length (told_by (if c then Answer.Refused 11 else take_use u s)) ≤ 1) [ true ↦ omega arith | false ↦ taken u ]
+unfolding used when◌then◌else◌ told_by take_use
+one_grant s w u = elim (leb mills (mill_of u)) as (λ c. length (told_by (when c then Answer.Refused 11 else take_use u s)) ≤ 1) [ true ↦ omega arith | false ↦ taken u ]
   where
     taken : (u : Use) → length (told_by (take_use u s)) ≤ 1
     taken (Use.Enter mill number) = elim (leb lane_size (length (lane mill s.lanes))) as
-        (λ c. length (told_by (if c then Answer.Refused 12 else Answer.Done (grant_all (with_lane mill (lane mill s.lanes ++ number ∷ []) s)))) ≤ 1)
+        (λ c. length (told_by (when c then Answer.Refused 12 else Answer.Done (grant_all (with_lane mill (lane mill s.lanes ++ number ∷ []) s)))) ≤ 1)
         [ true ↦ omega arith | false ↦ one_enter s mill number w ]
     taken (Use.Reply mill number) = one_reply s (mill, number) w
     taken (Use.Resume mill) = one_resume s mill w

@@ -10,7 +10,7 @@ use lib.ListN.{length, get_or, set, take, drop, replicate, length-append, drop_o
 use lib.Seq.{drop-cons}
 use lib.Dec.{eqb}
 use borrow.Author.Tests.{eq-eqb, ne_eqb, eqb-true, eqb-false}
-use Rattle.model.specs.Maps.{if◌then◌else◌, is_empty}
+use Rattle.model.specs.Maps.{when◌then◌else◌, is_empty}
 use Rattle.sender_turns.specs.Sender.{Call, Sender, mills, calls, lane_size, lane, after, same_call, rest_of, first_of, next_mill, fresh, granted, Told, telling, grants, grant_all, freed}
 use Rattle.sender_turns.specs.Laid.{lane_of, call_of, no_call, calls_of, laid_out, one_told, answering}
 use Rattle.sender_turns.specs.Steps.{Ready, Found, GrantsTo, Grants, Placed, mill_or_none, place_from, count_at}
@@ -25,11 +25,11 @@ use Rattle.sender_turns.proofs.Settled.{full_idle}
 -- ---- the mill after a mill
 
 pub after_last : (mill : ℕ) → mill < mills → mills - 1 ≤ mill → 0 ≡ after mill
-unfolding after if◌then◌else◌
+unfolding after when◌then◌else◌
 after_last mill h l = rw (eq-eqb (mill + 1) mills (omega arith))
 
 pub after_more : (mill : ℕ) → mill < mills - 1 → mill + 1 ≡ after mill
-unfolding after if◌then◌else◌
+unfolding after when◌then◌else◌
 after_more mill h = rw (ne_eqb (mill + 1) mills (λ e. absurd (omega arith)))
 
 -- ---- a call of a mill and a number
@@ -87,12 +87,12 @@ none_waiting [] h = refl
 none_waiting (n ∷ l) h = absurd (omega arith)
 
 stops : (l : List (List ℕ)) (left mill : ℕ) → 0 < left → 0 < length (lane mill l) → next_mill left mill l ≡ some mill
-unfolding next_mill if◌then◌else◌
+unfolding next_mill when◌then◌else◌
 stops l zero mill h k = absurd (omega arith)
 stops l (suc left) mill h k = rw (not_empty (lane mill l) k)
 
 goes_on : (l : List (List ℕ)) (left mill : ℕ) → 0 < left → length (lane mill l) ≡ 0 → next_mill left mill l ≡ next_mill (left - 1) (after mill) l
-unfolding next_mill if◌then◌else◌
+unfolding next_mill when◌then◌else◌
 goes_on l zero mill h k = absurd (omega arith)
 goes_on l (suc left) mill h k = let e : suc left - 1 ≡ left = omega arith in rw (none_waiting (lane mill l) k, e)
 
@@ -146,13 +146,13 @@ placed_none self call at k h = placed_end self call at k (λ s w e. omega (arith
 
 -- what the place's call says of the calls from there on
 place_step : (call : Call) (out : List Call) (at : ℕ) (t : Bool) → at < length out → same_call call (get_or out at (0, 0)) ≡ t
-    → place_from at call (drop at out) ≡ (if t then at else place_from (at + 1) call (drop (at + 1) out))
+    → place_from at call (drop at out) ≡ (when t then at else place_from (at + 1) call (drop (at + 1) out))
 unfolding place_from
 place_step call out at t h e = rw (drop-cons out at (0, 0) h, e, add-one at)
 
 pub placed_here : (self : SenderStruct) (call : Call) (at : ℕ) (found : Bool) → Seeks self call at → at < self.out
     → found ≡ same_call call ((get_or self.calls at no_call).mill, (get_or self.calls at no_call).number) → found ≡ true → Placed self call at
-unfolding if◌then◌else◌
+unfolding when◌then◌else◌
 placed_here self call at found k h f t = record {
   is = λ s w e.
       let low : at < length s.out = omega (arith, out_of s e) in
@@ -162,7 +162,7 @@ placed_here self call at found k h f t = record {
 
 pub seeks_next : (self : SenderStruct) (call : Call) (at : ℕ) (found : Bool) → Seeks self call at → at < self.out
     → found ≡ same_call call ((get_or self.calls at no_call).mill, (get_or self.calls at no_call).number) → found ≡ false → Seeks self call (at + 1)
-unfolding if◌then◌else◌
+unfolding when◌then◌else◌
 seeks_next self call at found k h f t = record {
   is = λ s w e.
       let low : at < length s.out = omega (arith, out_of s e) in
@@ -170,23 +170,23 @@ seeks_next self call at found k h f t = record {
 }
 
 place_low : (at : ℕ) (call : Call) (out : List Call) → at + length out ≤ calls → at ≤ place_from at call out
-unfolding place_from if◌then◌else◌
+unfolding place_from when◌then◌else◌
 place_low at call [] h = omega arith
 place_low at call (c ∷ out) h = go (same_call call c) (place_low (at + 1) call out (omega arith))
   where
-    go : (t : Bool) → at + 1 ≤ place_from (at + 1) call out → at ≤ (if t then at else place_from (at + 1) call out)
+    go : (t : Bool) → at + 1 ≤ place_from (at + 1) call out → at ≤ (when t then at else place_from (at + 1) call out)
     go true k = omega arith
     go false k = omega arith
 
 -- the call at its place is the one that is freed
 freed_from : (at k : ℕ) (call : Call) (out : List Call) → at + length out ≤ calls → place_from at call out ≡ at + k → at + k < calls → freed call out ≡ take k out ++ drop (suc k) out
-unfolding place_from freed if◌then◌else◌
+unfolding place_from freed when◌then◌else◌
 freed_from at k call [] w e h = absurd (omega arith)
 freed_from at k call (c ∷ out) w e h = go (same_call call c) k e h (place_low (at + 1) call out (omega arith)) (λ k. freed_from (at + 1) k call out)
   where
-    go : (t : Bool) (k : ℕ) → (if t then at else place_from (at + 1) call out) ≡ at + k → at + k < calls → at + 1 ≤ place_from (at + 1) call out
+    go : (t : Bool) (k : ℕ) → (when t then at else place_from (at + 1) call out) ≡ at + k → at + k < calls → at + 1 ≤ place_from (at + 1) call out
         → ((k : ℕ) → at + 1 + length out ≤ calls → place_from (at + 1) call out ≡ at + 1 + k → at + 1 + k < calls → freed call out ≡ take k out ++ drop (suc k) out)
-        → (if t then out else c ∷ freed call out) ≡ take k (c ∷ out) ++ drop (suc k) (c ∷ out)
+        → (when t then out else c ∷ freed call out) ≡ take k (c ∷ out) ++ drop (suc k) (c ∷ out)
     go true zero e h l f = refl
     go true (suc k) e h l f = absurd (omega arith)
     go false zero e h l f = absurd (omega arith)
@@ -197,11 +197,11 @@ freed_at k call out w e h = rw (add-one k) (freed_from 0 k call out (omega arith
 
 -- where it is at no place, none is
 freed_past : (at : ℕ) (call : Call) (out : List Call) → at + length out ≤ calls → calls ≤ place_from at call out → freed call out ≡ out
-unfolding place_from freed if◌then◌else◌
+unfolding place_from freed when◌then◌else◌
 freed_past at call [] w h = refl
 freed_past at call (c ∷ out) w h = go (same_call call c) h (freed_past (at + 1) call out (omega arith))
   where
-    go : (t : Bool) → calls ≤ (if t then at else place_from (at + 1) call out) → (calls ≤ place_from (at + 1) call out → freed call out ≡ out) → (if t then out else c ∷ freed call out) ≡ c ∷ out
+    go : (t : Bool) → calls ≤ (when t then at else place_from (at + 1) call out) → (calls ≤ place_from (at + 1) call out → freed call out ≡ out) → (when t then out else c ∷ freed call out) ≡ c ∷ out
     go true h f = absurd (omega arith)
     go false h f = ap (λ (x : List Call). c ∷ x) (f h)
 

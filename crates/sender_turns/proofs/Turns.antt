@@ -8,7 +8,7 @@ use mathlib.Core.Bool.{Bool, true, false, not, true≢false}
 use lib.ListN.{length, set, get_or-eq_default}
 use lib.Seq.{get_or-set_same, get_or-set_other}
 use lib.Dec.{leb, leb→le, nleb→lt, eqb, eqb→eq, eqb_refl, T}
-use Rattle.model.specs.Maps.{if◌then◌else◌, is_empty}
+use Rattle.model.specs.Maps.{when◌then◌else◌, is_empty}
 use Rattle.sender_turns.specs.Sender.{Sender, Told, mills, lane, after, next_mill, first_of, rest_of, granted, telling, grants}
 
 -- ---- tests
@@ -23,10 +23,10 @@ not_eq a b e h = true≢false (sym (is_true (rw (← h) (eqb_refl a))) ∙ e)
 -- ---- the turn, and how far a mill is from it
 
 pub after_low : (t : ℕ) → t < mills → after t < mills
-unfolding after if◌then◌else◌
+unfolding after when◌then◌else◌
 after_low t p = go (eqb (t + 1) mills) refl
   where
-    go : (c : Bool) → eqb (t + 1) mills ≡ c → (if c then 0 else t + 1) < mills
+    go : (c : Bool) → eqb (t + 1) mills ≡ c → (when c then 0 else t + 1) < mills
     go true e = omega arith
     go false e = omega (arith, not_eq (t + 1) mills e)
 
@@ -39,10 +39,10 @@ gap_zero t m p q (ahead e) = omega arith
 gap_zero t m p q (around e) = omega arith
 
 pub gap_suc : (t m d : ℕ) → t < mills → m < mills → Gap t m (suc d) → Gap (after t) m d
-unfolding after if◌then◌else◌
+unfolding after when◌then◌else◌
 gap_suc t m d p q g = go (eqb (t + 1) mills) refl g
   where
-    go : (c : Bool) → eqb (t + 1) mills ≡ c → Gap t m (suc d) → Gap (if c then 0 else t + 1) m d
+    go : (c : Bool) → eqb (t + 1) mills ≡ c → Gap t m (suc d) → Gap (when c then 0 else t + 1) m d
     go true e (ahead f) = ahead (omega (arith, eqb→eq (t + 1) mills (rw e tt)))
     go true e (around f) = ahead (omega (arith, eqb→eq (t + 1) mills (rw e tt)))
     go false e (ahead f) = ahead (omega arith)
@@ -89,8 +89,8 @@ lane_same zero l (x ∷ lanes) w = refl
 lane_same (suc m) l (x ∷ lanes) w = lane_same m l lanes w
 
 pub set_if : (mill m : ℕ) (l : List ℕ) (lanes : List (List ℕ)) → mill < length lanes → (c : Bool) → eqb mill m ≡ c
-    → lane mill (set lanes m l) ≡ (if c then l else lane mill lanes)
-unfolding if◌then◌else◌
+    → lane mill (set lanes m l) ≡ (when c then l else lane mill lanes)
+unfolding when◌then◌else◌
 set_if mill m l lanes h true e = ap (λ (n : ℕ). lane mill (set lanes n l)) (sym (eqb→eq mill m (rw e tt))) ∙ lane_put mill l lanes h
 set_if mill m l lanes h false e = lane_other m mill l lanes (λ p. not_eq mill m e (sym p))
 
@@ -120,13 +120,13 @@ farther m d (some n) (before g d' p n' l h) = before g d' p n' (omega arith) h
 farther m d none f = elim f [ ]
 
 pub found : (m asked t d : ℕ) (lanes : List (List ℕ)) → t < mills → m < mills → d < asked → Gap t m d → Waiting m lanes → Found m d (next_mill asked t lanes)
-unfolding next_mill if◌then◌else◌
+unfolding next_mill when◌then◌else◌
 found m zero t d lanes p q l g w = absurd (omega (arith, l))
 found m (suc asked) t d lanes p q l g w = go (is_empty (lane t lanes)) refl (eqb t m) refl d l g (found m asked (after t))
   where
     go : (c : Bool) → is_empty (lane t lanes) ≡ c → (e : Bool) → eqb t m ≡ e → (d : ℕ) → d < suc asked → Gap t m d
         → ((d : ℕ) (lanes : List (List ℕ)) → after t < mills → m < mills → d < asked → Gap (after t) m d → Waiting m lanes → Found m d (next_mill asked (after t) lanes))
-        → Found m d (if c then next_mill asked (after t) lanes else some t)
+        → Found m d (when c then next_mill asked (after t) lanes else some t)
     go true c e f zero l g ih = absurd (clash t m lanes (gap_zero t m p q g) c w)
     go true c e f (suc d) l g ih = farther m d _ (ih d lanes (after_low t p) q (omega arith) (gap_suc t m d p q g) w)
     go false c true f d l g ih = rw (eqb→eq t m (rw f tt)) itself
@@ -134,21 +134,21 @@ found m (suc asked) t d lanes p q l g w = go (is_empty (lane t lanes)) refl (eqb
     go false c false f (suc d) l g ih = before t d p (not_eq t m f) (omega arith) (gap_suc t m d p q g)
 
 pub next_low : (asked t : ℕ) (lanes : List (List ℕ)) → t < mills → (g : ℕ) → next_mill asked t lanes ≡ some g → g < mills
-unfolding next_mill if◌then◌else◌
+unfolding next_mill when◌then◌else◌
 next_low zero t lanes p g e = absurd (none-ne-some g e)
 next_low (suc asked) t lanes p g e = go (is_empty (lane t lanes)) (next_low asked (after t) lanes (after_low t p) g) e
   where
-    go : (c : Bool) → (next_mill asked (after t) lanes ≡ some g → g < mills) → (if c then next_mill asked (after t) lanes else some t) ≡ some g → g < mills
+    go : (c : Bool) → (next_mill asked (after t) lanes ≡ some g → g < mills) → (when c then next_mill asked (after t) lanes else some t) ≡ some g → g < mills
     go true ih e = ih e
     go false ih e = subst (λ (n : ℕ). n < mills) (some_inj.0 e) p
 
 pub next_waits : (asked t : ℕ) (lanes : List (List ℕ)) (g : ℕ) → next_mill asked t lanes ≡ some g → Waiting g lanes
-unfolding next_mill if◌then◌else◌
+unfolding next_mill when◌then◌else◌
 next_waits zero t lanes g e = absurd (none-ne-some g e)
 next_waits (suc asked) t lanes g e = go (is_empty (lane t lanes)) refl (next_waits asked (after t) lanes g) e
   where
     go : (c : Bool) → is_empty (lane t lanes) ≡ c → (next_mill asked (after t) lanes ≡ some g → Waiting g lanes)
-        → (if c then next_mill asked (after t) lanes else some t) ≡ some g → Waiting g lanes
+        → (when c then next_mill asked (after t) lanes else some t) ≡ some g → Waiting g lanes
     go true f ih e = ih e
     go false f ih e = subst (λ (n : ℕ). Waiting n lanes) (some_inj.0 e) (subst (λ (b : Bool). T (not b)) (sym f) tt)
 
@@ -169,7 +169,7 @@ none_found lanes t e p n m = go (leb mills m) refl
 
 -- and where every lane is empty, none is found
 pub none_waits : (asked t : ℕ) (lanes : List (List ℕ)) → ((m : ℕ) → lane m lanes ≡ []) → next_mill asked t lanes ≡ none
-unfolding next_mill if◌then◌else◌ is_empty
+unfolding next_mill when◌then◌else◌ is_empty
 none_waits zero t lanes f = refl
 none_waits (suc asked) t lanes f = rw (f t) (none_waits asked (after t) lanes f)
 

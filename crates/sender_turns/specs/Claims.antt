@@ -2,7 +2,7 @@
 use Rattle.std.specs.Prelude.{ℕ, ◌-◌, ◌≤◌, ◌<◌, ◌≡◌, List, [], ◌∷◌, ◌++◌, Bool, false, not, length, set, take, eqb, T}
 use Rattle.std.proofs.Math.Option.{none, some}
 use Rattle.format.specs.Format.{All}
-use Rattle.model.specs.Maps.{if◌then◌else◌, any, filter_map, is_empty}
+use Rattle.model.specs.Maps.{when◌then◌else◌, any, filter_map, is_empty}
 use Rattle.sender_turns.specs.Sender.{Call, Sender, Use, Answer, mills, calls, lane_size, fresh, lane, after, same_call, mill_of, used, sender_after, told_by, sender_over, told_over}
 
 -- ---- within the next eight grants
@@ -47,7 +47,7 @@ pub record EightIsExact : Type 0 where
 
 -- what a use puts behind the mill's lane, if it is accepted, and what it leaves of the lane first
 unfoldable pub entered : ℕ → Use → Answer → List ℕ
-entered mill (Use.Enter m number) (Answer.Done t) = if eqb mill m then number ∷ [] else []
+entered mill (Use.Enter m number) (Answer.Done t) = when eqb mill m then number ∷ [] else []
 entered mill (Use.Enter m number) (Answer.Refused n) = []
 entered mill (Use.Reply m number) answer = []
 entered mill (Use.Resume m) answer = []
@@ -55,10 +55,10 @@ entered mill (Use.Resume m) answer = []
 unfoldable pub left_of : ℕ → Use → List ℕ → List ℕ
 left_of mill (Use.Enter m number) l = l
 left_of mill (Use.Reply m number) l = l
-left_of mill (Use.Resume m) l = if eqb mill m then [] else l
+left_of mill (Use.Resume m) l = when eqb mill m then [] else l
 
 unfoldable pub numbers_of : ℕ → List Call → List ℕ
-numbers_of mill told = filter_map (λ call. if for_mill mill call then some call.1 else none) told
+numbers_of mill told = filter_map (λ call. when for_mill mill call then some call.1 else none) told
 
 -- what the uses put behind the mill's lane, in their order
 unfoldable pub entered_over : ℕ → Sender → List Use → List ℕ

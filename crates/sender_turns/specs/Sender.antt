@@ -1,7 +1,7 @@
 -- Change request 11/13, fair turns at the provider: what a sender is, and what each use of it does. Assumes nothing.
 use Rattle.std.specs.Prelude.{ℕ, zero, suc, ◌+◌, ◌-◌, List, [], ◌∷◌, ◌++◌, Bool, ◌&&◌, length, get_or, set, replicate, leb, eqb}
 use Rattle.std.proofs.Math.Option.{Option, none, some}
-use Rattle.model.specs.Maps.{if◌then◌else◌, is_empty}
+use Rattle.model.specs.Maps.{when◌then◌else◌, is_empty}
 
 -- the mills on the account, the calls that may be out at a time, the requests that a lane holds
 abbrev pub mills : ℕ
@@ -43,12 +43,12 @@ lane mill lanes = get_or lanes mill []
 
 -- the mill after this one: 0 after the last
 unfoldable pub after : ℕ → ℕ
-after mill = if eqb (mill + 1) mills then 0 else mill + 1
+after mill = when eqb (mill + 1) mills then 0 else mill + 1
 
 -- the first mill with a request waiting, of so many that are asked from this one on
 unfoldable pub next_mill : (asked mill : ℕ) → List (List ℕ) → Option ℕ
 next_mill zero mill lanes = none
-next_mill (suc asked) mill lanes = if is_empty (lane mill lanes) then next_mill asked (after mill) lanes else some mill
+next_mill (suc asked) mill lanes = when is_empty (lane mill lanes) then next_mill asked (after mill) lanes else some mill
 
 unfoldable pub first_of : List ℕ → ℕ
 first_of [] = 0
@@ -93,7 +93,7 @@ same_call a b = eqb a.0 b.0 && eqb a.1 b.1
 -- one call of this mill and number is freed; where none is out, nothing changes
 unfoldable pub freed : Call → List Call → List Call
 freed call [] = []
-freed call (c ∷ out) = if same_call call c then out else c ∷ freed call out
+freed call (c ∷ out) = when same_call call c then out else c ∷ freed call out
 
 unfoldable pub with_lane : ℕ → List ℕ → Sender → Sender
 with_lane mill l s = record { lanes = set s.lanes mill l; out = s.out; turn = s.turn }
@@ -113,14 +113,14 @@ mill_of (Use.Resume mill) = mill
 
 unfoldable pub take_use : Use → Sender → Answer
 take_use (Use.Enter mill number) s =
-    if leb lane_size (length (lane mill s.lanes)) then Answer.Refused 12
+    when leb lane_size (length (lane mill s.lanes)) then Answer.Refused 12
     else Answer.Done (grant_all (with_lane mill (lane mill s.lanes ++ number ∷ []) s))
 take_use (Use.Reply mill number) s = Answer.Done (grant_all (with_out (freed (mill, number) s.out) s))
 take_use (Use.Resume mill) s = Answer.Done (grant_all (with_lane mill [] s))
 
 -- a use: refusal 11 for a mill that is not there, then 12 for a full lane; else it ends with every grant possible
 unfoldable pub used : Use → Sender → Answer
-used u s = if leb mills (mill_of u) then Answer.Refused 11 else take_use u s
+used u s = when leb mills (mill_of u) then Answer.Refused 11 else take_use u s
 
 -- ---- lists of uses
 

@@ -1,7 +1,7 @@
 -- What the functions below the methods promise. Assumes nothing.
 use Rattle.std.specs.Prelude.{ℕ, ◌+◌, ◌≤◌, ◌<◌, ◌≡◌, List, [], ◌∷◌, length, get_or}
 use Rattle.std.proofs.Math.Option.{Option, none, some}
-use Rattle.model.specs.Maps.{if◌then◌else◌}
+use Rattle.model.specs.Maps.{when◌then◌else◌}
 use Rattle.sender_turns.specs.Sender.{Call, Sender, mills, calls, lane_size, lane, next_mill, first_of, granted, grant_all, same_call}
 use Rattle.sender_turns.specs.Laid.{laid_out, answering}
 use Rattle.sender_turns.specs.declared.Sender.{Sender as SenderStruct}
@@ -38,7 +38,7 @@ pub record Grants (self : SenderStruct) (r : ToldStruct) : Type 0 where
 -- the place of the first call of this mill and number, counted from `at`; `calls` for none
 unfoldable pub place_from : ℕ → Call → List Call → ℕ
 place_from at call [] = calls
-place_from at call (c ∷ out) = if same_call call c then at else place_from (at + 1) call out
+place_from at call (c ∷ out) = when same_call call c then at else place_from (at + 1) call out
 
 pub record Placed (self : SenderStruct) (call : Call) (r : ℕ) : Type 0 where
   pub is : (s : Sender) → Ready s → self ≡ laid_out s → r ≡ place_from 0 call s.out

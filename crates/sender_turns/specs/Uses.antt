@@ -1,7 +1,7 @@
 -- Change request 11/13, of the code: what is claimed of lists of uses from a fresh sender. A use is known by what its method ensures, and by nothing
 -- else. Proved in proofs/CodeTheorems.antt. Assumes nothing.
 use Rattle.std.specs.Prelude.{ℕ, ◌≤◌, ◌<◌, ◌≡◌, List, [], ◌∷◌, ◌++◌, map, length, take, get_or, eqb}
-use Rattle.model.specs.Maps.{if◌then◌else◌}
+use Rattle.model.specs.Maps.{when◌then◌else◌}
 use Rattle.sender_turns.specs.Sender.{Call, Use, mills, calls, fresh, sender_over, told_over}
 use Rattle.sender_turns.specs.Claims.{NoResume, Within, numbers_of}
 use Rattle.sender_turns.specs.Laid.{lane_of, laid_out, Answers}
@@ -31,7 +31,7 @@ left s (u ∷ l) = left u.answer.sender l
 -- the grants that the answers tell, in their order
 unfoldable pub told : List Used → List Call
 told [] = []
-told (u ∷ l) = (if u.answer.granted then (u.answer.call.mill, u.answer.call.number) ∷ [] else []) ++ told l
+told (u ∷ l) = (when u.answer.granted then (u.answer.call.mill, u.answer.call.number) ∷ [] else []) ++ told l
 
 -- a mill's requests that wait, and how many
 unfoldable pub count_in : ℕ → SenderStruct → ℕ
@@ -42,7 +42,7 @@ waiting_in mill s = take (count_in mill s) (get_or s.lanes mill (lane_of [])).nu
 
 -- what entered the mill's lane, in its order
 unfoldable pub entered_by : ℕ → Use → ℕ → List ℕ
-entered_by mill (Use.Enter m number) code = if eqb code 0 then (if eqb mill m then number ∷ [] else []) else []
+entered_by mill (Use.Enter m number) code = when eqb code 0 then (when eqb mill m then number ∷ [] else []) else []
 entered_by mill (Use.Reply m number) code = []
 entered_by mill (Use.Resume m) code = []
 

@@ -8,7 +8,7 @@ use mathlib.Core.Logic.{◌⊎◌, ⊎_elim}
 use lib.ListN.{length, length-append}
 use Rattle.model.specs.Seam.{ResourceId}
 use Rattle.model.specs.State.{Map, SyncState}
-use Rattle.model.specs.Maps.{if◌then◌else◌, filter}
+use Rattle.model.specs.Maps.{when◌then◌else◌, filter}
 use Rattle.model.proofs.Fitting.{filter_first}
 use Rattle.state.specs.Contract.{Keeps, HasState, Reads, Edits}
 
@@ -33,7 +33,7 @@ module _ {A : Type 0} (of : SyncState → Map ResourceId A) (to : Map ResourceId
   turn : (s : SyncState) (w w' : List ℕ) (i left r : ℕ) (kept rest : Map ResourceId A) → Keeps (to (kept ++ rest) s) w → filter (test s) (of s) ≡ kept ++ filter (test s) rest → length kept ≡ i → length rest ≡ left → 0 < left
       → ((kept rest : Map ResourceId A) (e : ResourceId × A) → Keeps (to (kept ++ (e ∷ rest)) s) w → length kept ≡ i → Turn s w' i r kept e rest)
       → Retained s w' r (left - 1)
-  unfolding if◌then◌else◌
+  unfolding when◌then◌else◌
   turn s w w' i left r kept [] h q a b l t = absurd (let z : 0 ≡ left = b in omega arith)
   turn s w w' i left r kept (e ∷ rest) h q a b l t =
       let z : suc (length rest) ≡ left = b in

@@ -12,17 +12,17 @@ use Rattle.spans.specs.Bytes.{zeros}
 use Rattle.spans.proofs.Laws.{drop_zeros}
 use Rattle.lent.specs.Lent.{placed}
 use Rattle.model.specs.Event.{Text}
-use Rattle.model.specs.Maps.{if◌then◌else◌}
+use Rattle.model.specs.Maps.{when◌then◌else◌}
 use Rattle.model.specs.Formats.{short_text}
 use Rattle.state.specs.Layout.{padded, field}
 use Rattle.waiting.specs.Texts.{text_end, texts_end}
 
 pub text_past : (s : List ℕ) (at : ℕ) → length s ≤ at → at ≡ text_end s at
-unfolding text_end if◌then◌else◌
+unfolding text_end when◌then◌else◌
 text_past s at h = rw (le-ltb at (length s) h)
 
 pub text_more : (s : List ℕ) (at : ℕ) → at < length s → at + (1 + get_or s at 0) ≡ text_end s at
-unfolding text_end if◌then◌else◌
+unfolding text_end when◌then◌else◌
 text_more s at h = rw (lt-ltb at (length s) h)
 
 pub texts_next : (left at : ℕ) (s : List ℕ) → 0 < left → texts_end left s at ≡ texts_end (left - 1) s (text_end s at)

@@ -19,7 +19,7 @@ use Rattle.tables.proofs.Laws as tables
 use Rattle.model.specs.Seam.{ResourceId}
 use Rattle.model.specs.State.{Map, Pending, Queue}
 use Rattle.model.specs.Limits.{document01}
-use Rattle.model.specs.Maps.{if◌then◌else◌, by, by_name, same_text, map, keys}
+use Rattle.model.specs.Maps.{when◌then◌else◌, by, by_name, same_text, map, keys}
 use Rattle.model.specs.Formats.{resource_id, short_text, operation_f, role_f, conflicts_f, refusals_f}
 use Rattle.model.specs.WellFormed.{rising}
 use Rattle.model.proofs.FormatsLaws.{resource_id_law, short_text_law, operation_f_law, role_f_law, conflicts_f_law, refusals_f_law}
@@ -244,11 +244,11 @@ unfolding ordered_from map
 from_next x y l = rw (text_is x, text_is y)
 
 put_entries : (x : ResourceId × Pending) (m : Map ResourceId Queue) → entries (put_first x m) ≡ x ∷ entries m
-unfolding if◌then◌else◌
+unfolding when◌then◌else◌
 put_entries x [] = refl
 put_entries x (e ∷ m) = go (same_text x.0 e.0) refl
   where
-    go : (b : Bool) → same_text x.0 e.0 ≡ b → entries (if b then (e.0, x.1 ∷ e.1) ∷ m else (x.0, x.1 ∷ []) ∷ e ∷ m) ≡ x ∷ entries (e ∷ m)
+    go : (b : Bool) → same_text x.0 e.0 ≡ b → entries (when b then (e.0, x.1 ∷ e.1) ∷ m else (x.0, x.1 ∷ []) ∷ e ∷ m) ≡ x ∷ entries (e ∷ m)
     go true s = ap (λ (r : ResourceId). (r, x.1) ∷ (entries_of e.0 e.1 ++ entries m)) (sym (same_is x.0 e.0 (subst T (sym s) tt)))
     go false s = refl
 
@@ -257,11 +257,11 @@ entries_queues [] = refl
 entries_queues (x ∷ l) = put_entries x (queues l) ∙ ap (λ (y : Entries). x ∷ y) (entries_queues l)
 
 put_fits : (x : ResourceId × Pending) (m : Map ResourceId Queue) → EntryFits document01 x → All (QueueFits document01) m → All (QueueFits document01) (put_first x m)
-unfolding if◌then◌else◌
+unfolding when◌then◌else◌
 put_fits x [] h a = (record { key = h.0; some = omega arith; each = (h.1, tt) }, tt)
 put_fits x (e ∷ m) h a = go (same_text x.0 e.0) refl
   where
-    go : (b : Bool) → same_text x.0 e.0 ≡ b → All (QueueFits document01) (if b then (e.0, x.1 ∷ e.1) ∷ m else (x.0, x.1 ∷ []) ∷ e ∷ m)
+    go : (b : Bool) → same_text x.0 e.0 ≡ b → All (QueueFits document01) (when b then (e.0, x.1 ∷ e.1) ∷ m else (x.0, x.1 ∷ []) ∷ e ∷ m)
     go true s =
         (record { key = a.0.key; some = omega arith; each = (subst (λ (r : ResourceId). PendingFits document01 r x.1) (same_is x.0 e.0 (subst T (sym s) tt)) h.1, a.0.each) }, a.1)
     go false s = (record { key = h.0; some = omega arith; each = (h.1, tt) }, a)
@@ -277,11 +277,11 @@ record Led (r : ResourceId) (m : Map ResourceId Queue) : Type 0 where
   is : m ≡ (r, queue) ∷ rest
 
 put_led : (x : ResourceId × Pending) (m : Map ResourceId Queue) → Led x.0 (put_first x m)
-unfolding if◌then◌else◌
+unfolding when◌then◌else◌
 put_led x [] = record { queue = x.1 ∷ []; rest = []; is = refl }
 put_led x (e ∷ m) = go (same_text x.0 e.0) refl
   where
-    go : (b : Bool) → same_text x.0 e.0 ≡ b → Led x.0 (if b then (e.0, x.1 ∷ e.1) ∷ m else (x.0, x.1 ∷ []) ∷ e ∷ m)
+    go : (b : Bool) → same_text x.0 e.0 ≡ b → Led x.0 (when b then (e.0, x.1 ∷ e.1) ∷ m else (x.0, x.1 ∷ []) ∷ e ∷ m)
     go true s = record { queue = x.1 ∷ e.1; rest = m; is = ap (λ (r : ResourceId). (r, x.1 ∷ e.1) ∷ m) (sym (same_is x.0 e.0 (subst T (sym s) tt))) }
     go false s = record { queue = x.1 ∷ []; rest = e ∷ m; is = refl }
 
@@ -299,10 +299,10 @@ strictly a b h s = go (by_name a b) refl
         absurd (tables.false_true (sym (ap not_greater o) ∙ h))
 
 put_rises : (x : ResourceId × Pending) (r : ResourceId) (q : Queue) (m : Map ResourceId Queue) → before x.0 r ≡ true → T (rising by_name (keys ((r, q) ∷ m))) → T (rising by_name (keys (put_first x ((r, q) ∷ m))))
-unfolding if◌then◌else◌ keys map rising by
+unfolding when◌then◌else◌ keys map rising by
 put_rises x r q m h t = go (same_text x.0 r) refl
   where
-    go : (b : Bool) → same_text x.0 r ≡ b → T (rising by_name (keys (if b then (r, x.1 ∷ q) ∷ m else (x.0, x.1 ∷ []) ∷ (r, q) ∷ m)))
+    go : (b : Bool) → same_text x.0 r ≡ b → T (rising by_name (keys (when b then (r, x.1 ∷ q) ∷ m else (x.0, x.1 ∷ []) ∷ (r, q) ∷ m)))
     go true s = t
     go false s = and_both (by (by_name x.0 r) true false false) _ (subst (λ (o : Ordering). T (by o true false false)) (sym (strictly x.0 r h s)) tt) t
 

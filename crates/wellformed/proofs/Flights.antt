@@ -19,7 +19,7 @@ use Rattle.model.specs.Event.{Text}
 use Rattle.model.specs.Seam.{RequestId, ResourceId}
 use Rattle.model.specs.State.{Map, Pending, Queue, Purpose, SyncState}
 use Rattle.model.specs.Limits.{document01}
-use Rattle.model.specs.Maps.{if◌then◌else◌, by, by_name, same_text, filter, map, is_some, get, keys, values}
+use Rattle.model.specs.Maps.{when◌then◌else◌, by, by_name, same_text, filter, map, is_some, get, keys, values}
 use Rattle.model.specs.Formats.{resource_id, u64}
 use Rattle.model.specs.SavedForm.{purpose_f}
 use Rattle.model.specs.Sync.{edit_reads, edit_writes}
@@ -170,11 +170,11 @@ all_queued s q [] a = refl
 all_queued s q (e ∷ m) a = ap₂ both (queued_is s q e a.0.1) (all_queued s q m a.1) ∙ tables.both_and (has_queue s e.1) (all (has_queue s) (values m))
 
 count_is : (key : List ℕ) (m : Map RequestId Purpose) → All FlightFits m → count_slots (is_for key) (map flight_slot m) ≡ count (for_edit (text key)) (values m)
-unfolding count_slots map values count filter if◌then◌else◌
+unfolding count_slots map values count filter when◌then◌else◌
 count_is key [] a = refl
 count_is key (e ∷ m) a = ap₂ ◌+◌ (ap one (for_is key e a.0.1)) (count_is key m a.1) ∙ go (for_edit (text key) e.1)
   where
-    go : (b : Bool) → one b + length (filter (for_edit (text key)) (map (λ e. e.1) m)) ≡ length (if b then e.1 ∷ filter (for_edit (text key)) (map (λ e. e.1) m) else filter (for_edit (text key)) (map (λ e. e.1) m))
+    go : (b : Bool) → one b + length (filter (for_edit (text key)) (map (λ e. e.1) m)) ≡ length (when b then e.1 ∷ filter (for_edit (text key)) (map (λ e. e.1) m) else filter (for_edit (text key)) (map (λ e. e.1) m))
     go true = omega arith
     go false = omega arith
 

@@ -12,7 +12,7 @@ use Rattle.model.specs.Seam.{ResourceId}
 use Rattle.model.specs.Calls.{Notice, Effect}
 use Rattle.model.specs.State.{Map, Pending, Queue, SyncState, with_aliases}
 use Rattle.model.specs.Limits.{document01}
-use Rattle.model.specs.Maps.{if◌then◌else◌, same_text, by_name, insert, map, filter, is_empty}
+use Rattle.model.specs.Maps.{when◌then◌else◌, same_text, by_name, insert, map, filter, is_empty}
 use Rattle.model.specs.Machine.{Machine, Run, ok, with_state, within, tell, set_aliases, queue_of, set_queue, set_edits}
 use Rattle.model.specs.Sync.{is_create, move_to, move_behind, remap, start_edit, start_queue}
 use Rattle.model.proofs.Tables.{same_self, by_name_same, name_order}
@@ -53,11 +53,11 @@ module _ (from to : ResourceId) (d : by_name from to ≡ Ordering.eq → ⊥) (d
   swept_few s l = ap (λ (k : ℕ). sweep from to k 1 s) (let z : length (queue from s) - 1 ≡ 0 = omega arith in z)
 
   abbrev then_start : Queue → Machine → Run
-  then_start t n = if is_empty t then start_edit to n else ok n
+  then_start t n = when is_empty t then start_edit to n else ok n
 
   -- a start where nothing waits
   quiet : (n : Machine) (t : Queue) → queue to n.state ≡ t → ok n ≡ then_start t n
-  unfolding is_empty if◌then◌else◌ start_edit start_queue
+  unfolding is_empty when◌then◌else◌ start_edit start_queue
   quiet n [] e = sym (ap (λ (q : Queue). start_queue to q n) (queue_is to n ∙ e))
   quiet n (x ∷ t) e = refl
 
@@ -114,13 +114,13 @@ module _ (from to : ResourceId) (d : by_name from to ≡ Ordering.eq → ⊥) (d
 -- ---- the functions
 
 pub one_stays : {from to : ResourceId} {w : List ℕ} {j : ℕ} {c : ℕ} → Reads (λ s. operation_case_of (nth j (queue from s))) w c → c ≡ 0 → MovesOne from j to w (j + 1) w
-unfolding stays_at one_moved place_after if◌then◌else◌
+unfolding stays_at one_moved place_after when◌then◌else◌
 one_stays {from} {to} {w} {j} {c} R z =
     let t : (s : SyncState) → Keeps s w → stays_at from j s ≡ true = λ s h. eq-eqb (operation_case_of (nth j (queue from s))) 0 (sym (R.is s h) ∙ z) in
     record { next = λ s h. rw (t s h); makes = λ s h. rw (t s h) h }
 
 pub one_moves : {from to : ResourceId} {w w' : List ℕ} {j : ℕ} {c : ℕ} → Reads (λ s. operation_case_of (nth j (queue from s))) w c → (c ≡ 0 → ⊥) → Edits (moved from j to) w w' → MovesOne from j to w j w'
-unfolding stays_at one_moved place_after if◌then◌else◌
+unfolding stays_at one_moved place_after when◌then◌else◌
 one_moves {from} {to} {w} {j = j} R z E =
     let t : (s : SyncState) → Keeps s w → stays_at from j s ≡ false = λ s h. ne_eqb (operation_case_of (nth j (queue from s))) 0 (λ y. z (R.is s h ∙ y)) in
     record { next = λ s h. rw (t s h); makes = λ s h. rw (t s h) (E.makes s h) }
@@ -152,7 +152,7 @@ pub sweep_has : {from to : ResourceId} {w₀ w : List ℕ} {left j : ℕ} → Ha
 sweep_has H S = let x = S.is H.state H.keeps in record { state = x.0; keeps = x.1 }
 
 pub sweep_turn : {from to : ResourceId} {w₀ w w' : List ℕ} {left j r : ℕ} → HasState w₀ → Sweeping from to w₀ w left j → 0 < left → MovesOne from j to w r w' → Sweeping from to w₀ w' (left - 1) r
-unfolding sweep place_after if◌then◌else◌
+unfolding sweep place_after when◌then◌else◌
 sweep_turn {from} {to} {w₀} {w} {w'} {left} {j} {r} H S z M = record {
   low =
       let x = S.is H.state H.keeps in
@@ -162,7 +162,7 @@ sweep_turn {from} {to} {w₀} {w} {w'} {left} {j} {r} H S z M = record {
       (one_moved from j to x.0, M.makes x.0 x.1, x.2 ∙ turn left z x.0 ∙ ap (λ (k : ℕ). sweep from to (left - 1) k (one_moved from j to x.0)) (sym (M.next x.0 x.1)));
 }
   where
-    at_most : (b : Bool) → (if b then j + 1 else j) ≤ j + 1
+    at_most : (b : Bool) → (when b then j + 1 else j) ≤ j + 1
     at_most true = omega arith
     at_most false = omega arith
 
@@ -213,23 +213,23 @@ some_entries n (x ∷ q) a b = refl
 
 module _ (from to : ResourceId) {w w₁ : List ℕ} {n : ℕ} (c : same_text from to ≡ false) (R : Reads (λ s. length (queue to s)) w n) (E : Edits (swept from to) w w₁) where
   pub behind_starts : {o w₂ o₂ : List ℕ} {p q : Progress} → n ≡ 0 → Does (start_edit to) w₁ o p q w₂ o₂ → Does (λ m. move_behind from to (queue_of from m) m) w o p q w₂ o₂
-  unfolding if◌then◌else◌
+  unfolding when◌then◌else◌
   behind_starts z D = runs.is_held (λ m. move_behind from to (queue_of from m) m)
       (λ m h. sym (behind_is from to (apart from to c) (apart' from to c) m
-      ∙ ap (λ (b : Bool). if b then start_edit to (with_state (swept from to m.state) m) else ok (with_state (swept from to m.state) m)) (no_entries n (queue to m.state) (R.is m.state h.keeps) z)))
+      ∙ ap (λ (b : Bool). when b then start_edit to (with_state (swept from to m.state) m) else ok (with_state (swept from to m.state) m)) (no_entries n (queue to m.state) (R.is m.state h.keeps) z)))
       (runs.edit E D)
 
   pub behind_waits : {o : List ℕ} {p : Progress} → (n ≡ 0 → ⊥) → Does (λ m. move_behind from to (queue_of from m) m) w o p p w₁ o
-  unfolding if◌then◌else◌
+  unfolding when◌then◌else◌
   behind_waits z = runs.is_held (λ m. move_behind from to (queue_of from m) m)
       (λ m h. sym (behind_is from to (apart from to c) (apart' from to c) m
-      ∙ ap (λ (b : Bool). if b then start_edit to (with_state (swept from to m.state) m) else ok (with_state (swept from to m.state) m)) (some_entries n (queue to m.state) (R.is m.state h.keeps) z)))
+      ∙ ap (λ (b : Bool). when b then start_edit to (with_state (swept from to m.state) m) else ok (with_state (swept from to m.state) m)) (some_entries n (queue to m.state) (R.is m.state h.keeps) z)))
       (runs.last_edit E)
 
 -- ---- remap
 
 pub remap_same : (from to : ResourceId) {w o : List ℕ} {p : Progress} {b : Bool} → b ≡ same_text from to → b ≡ true → Does (remap from to) w o p p w o
-unfolding remap if◌then◌else◌
+unfolding remap when◌then◌else◌
 remap_same from to e t = runs.is (remap from to) (λ m. rw (sym e ∙ t)) runs.nothing
 
 alias : {w w' : List ℕ} {b : Bool} (p : Progress) (from to : ResourceId)
@@ -249,6 +249,6 @@ pub remaps : (from to : ResourceId) {w o w₁ o₁ w₂ o₂ : List ℕ} {p q r 
     → Tries (λ s. leb (length (insert by_name from to s.aliases)) 8) (λ s. with_aliases (insert by_name from to s.aliases) s) w c w₁
     → q ≡ tried_by p c → Pushes (Effect.Notify (Notice.Remapped from to)) o q r o₁ → Does (λ m. move_behind from to (queue_of from m) m) w₁ o₁ r t w₂ o₂
     → Does (remap from to) w o p t w₂ o₂
-unfolding remap if◌then◌else◌ tell
+unfolding remap when◌then◌else◌ tell
 remaps from to {o = o} {w₁} {p = p} e f T k P D =
     runs.is (remap from to) (λ m. rw (sym e ∙ f)) (runs.next ((steps.changed k (alias p from to T)).does o) (runs.next (P.does w₁) D))

@@ -11,7 +11,7 @@ use lib.ListN.{length, length-append}
 use Rattle.model.specs.Seam.{ResourceId}
 use Rattle.model.specs.Edits.{Operation}
 use Rattle.model.specs.State.{Map, Pending, Queue, SyncState}
-use Rattle.model.specs.Maps.{if◌then◌else◌, by_name, get, insert, map, filter}
+use Rattle.model.specs.Maps.{when◌then◌else◌, by_name, get, insert, map, filter}
 use Rattle.model.specs.Machine.{match◌none:◌some:◌}
 use Rattle.model.specs.Sync.{is_create}
 use Rattle.model.proofs.Tables.{name_order, get_insert, get_insert_other}
@@ -138,32 +138,32 @@ module _ (from to : ResourceId) (d : by_name from to ≡ Ordering.eq → ⊥) (d
 
     turn_stays : (x : Pending) (R K M : Queue) → creates x ≡ true
         → sweep from to (length (x ∷ R)) (suc (length K)) (at_form K M (x ∷ R)) ≡ sweep from to (length R) (suc (length (K ++ (x ∷ [])))) (at_form (K ++ (x ∷ [])) M R)
-    unfolding sweep place_after one_moved if◌then◌else◌ at_form
+    unfolding sweep place_after one_moved when◌then◌else◌ at_form
     turn_stays x R K M e =
         let S : SyncState = at_form K M (x ∷ R) in
         let c : stays_at from (suc (length K)) (at_form K M (x ∷ R)) ≡ true = stays_is K M x R ∙ e in
         let n : suc (length K) + 1 ≡ suc (length (K ++ (x ∷ []))) = simp length-append (omega arith) in
-        ap (λ (b : Bool). sweep from to (length R) (if b then suc (length K) + 1 else suc (length K)) (if b then S else moved from (suc (length K)) to S)) c
+        ap (λ (b : Bool). sweep from to (length R) (when b then suc (length K) + 1 else suc (length K)) (when b then S else moved from (suc (length K)) to S)) c
         ∙ ap (λ (j : ℕ). sweep from to (length R) j S) n
         ∙ ap (λ (G : Map ResourceId Queue). sweep from to (length R) (suc (length (K ++ (x ∷ [])))) (with_edits G s)) (form_stays K M x R)
 
     turn_moves : (x : Pending) (R K M : Queue) → creates x ≡ false
         → sweep from to (length (x ∷ R)) (suc (length K)) (at_form K M (x ∷ R)) ≡ sweep from to (length R) (suc (length K)) (at_form K (M ++ (renamed to x ∷ [])) R)
-    unfolding sweep place_after one_moved if◌then◌else◌
+    unfolding sweep place_after one_moved when◌then◌else◌
     turn_moves x R K M e =
         let S : SyncState = at_form K M (x ∷ R) in
         let c : stays_at from (suc (length K)) (at_form K M (x ∷ R)) ≡ false = stays_is K M x R ∙ e in
-        ap (λ (b : Bool). sweep from to (length R) (if b then suc (length K) + 1 else suc (length K)) (if b then S else moved from (suc (length K)) to S)) c
+        ap (λ (b : Bool). sweep from to (length R) (when b then suc (length K) + 1 else suc (length K)) (when b then S else moved from (suc (length K)) to S)) c
         ∙ ap (sweep from to (length R) (suc (length K))) (moved_is K M x R)
 
     left_stays : (x : Pending) (R K M : Queue) → creates x ≡ true
         → at_form ((K ++ (x ∷ [])) ++ filter creates R) (M ++ map (renamed to) (filter (λ q. not (creates q)) R)) [] ≡ at_form (K ++ filter creates (x ∷ R)) (M ++ map (renamed to) (filter (λ q. not (creates q)) (x ∷ R))) []
-    unfolding filter map if◌then◌else◌
+    unfolding filter map when◌then◌else◌
     left_stays x R K M e = rw (e, append_assoc K (x ∷ []) (filter creates R))
 
     left_moves : (x : Pending) (R K M : Queue) → creates x ≡ false
         → at_form (K ++ filter creates R) ((M ++ (renamed to x ∷ [])) ++ map (renamed to) (filter (λ q. not (creates q)) R)) [] ≡ at_form (K ++ filter creates (x ∷ R)) (M ++ map (renamed to) (filter (λ q. not (creates q)) (x ∷ R))) []
-    unfolding filter map if◌then◌else◌
+    unfolding filter map when◌then◌else◌
     left_moves x R K M e = rw (e, append_assoc M (renamed to x ∷ []) (map (renamed to) (filter (λ q. not (creates q)) R)))
 
     pub sweep_form : (R K M : Queue) → sweep from to (length R) (suc (length K)) (at_form K M R) ≡ at_form (K ++ filter creates R) (M ++ map (renamed to) (filter (λ q. not (creates q)) R)) []

@@ -16,7 +16,7 @@ use Rattle.model.specs.Calls.{Rejection}
 use Rattle.model.specs.Edits.{Operation}
 use Rattle.model.specs.Limits.{max_attendees}
 use Rattle.model.specs.State.{Pending, Queue, Purpose}
-use Rattle.model.specs.Maps.{if◌then◌else◌, is_some_and}
+use Rattle.model.specs.Maps.{when◌then◌else◌, is_some_and}
 use Rattle.model.specs.Formats.{same, fields_f, event_f}
 use Rattle.model.specs.Merge.{merge}
 use Rattle.model.specs.Machine.{Machine, Run, refused, ok, match◌none:◌some:◌, with_state, request, queue_of}
@@ -55,16 +55,16 @@ refuses {w} {o} {f} {p} n z e k = subst (λ (q : Progress). Does f w o p q w o) 
 
 module _ (r : ResourceId) {w o w' o' : List ℕ} {p q : Progress} (t : ProviderEvent) (merged : MergeOutcome) {b : Bool} (e : b ≡ merged.changed) where
   pub merge_writes : b ≡ true → Does (request (Purpose.EditWrite r) (Request.Update r t.revision merged.event)) w o p q w' o' → Does (send_merged r t merged) w o p q w' o'
-  unfolding send_merged if◌then◌else◌
+  unfolding send_merged when◌then◌else◌
   merge_writes c d = runs.is (send_merged r t merged) (λ m. sym (rw (sym e ∙ c))) d
 
   pub merge_ends : b ≡ false → Does (finish r none) w o p q w' o' → Does (send_merged r t merged) w o p q w' o'
-  unfolding send_merged if◌then◌else◌
+  unfolding send_merged when◌then◌else◌
   merge_ends c d = runs.is (send_merged r t merged) (λ m. sym (rw (sym e ∙ c))) d
 
 pub too_many : (r : ResourceId) {w o : List ℕ} {p q : Progress} {n : ℕ} (b u : NormalizedEvent) (t : ProviderEvent) (by : Role) → n ≡ length (merge b u t by).event.fields.attendees → 8 < n → q ≡ unless p (refusal 6)
     → Does (plan_update r by b u t) w o p q w o
-unfolding plan_update if◌then◌else◌ max_attendees
+unfolding plan_update when◌then◌else◌ max_attendees
 too_many r b u t by e l k = refuses 6 (λ z. omega arith) (λ m. rw (lt-leb (length (merge b u t by).event.fields.attendees) 8 (omega arith))) k
 
 pub few_enough : {n : ℕ} (b u : NormalizedEvent) (t : ProviderEvent) (by : Role) → n ≡ length (merge b u t by).event.fields.attendees → n ≤ 8 → length (merge b u t by).event.fields.attendees ≤ max_attendees
@@ -79,7 +79,7 @@ head_planned r merged m =
 
 pub merges : (r : ResourceId) {w w₁ o w₂ o₂ : List ℕ} {p q : Progress} (b u : NormalizedEvent) (t : ProviderEvent) (by : Role) → length (merge b u t by).event.fields.attendees ≤ max_attendees
     → Edits (with_merge r (merge b u t by)) w w₁ → Does (send_merged r t (merge b u t by)) w₁ o p q w₂ o₂ → Does (plan_update r by b u t) w o p q w₂ o₂
-unfolding plan_update if◌then◌else◌ send_merged
+unfolding plan_update when◌then◌else◌ send_merged
 merges r b u t by l E d =
     runs.is (plan_update r by b u t)
     (λ m. sym (rw (le-leb (length (merge b u t by).event.fields.attendees) max_attendees l) (ap (send_merged r t (merge b u t by)) (head_planned r (merge b u t by) m))))
@@ -253,7 +253,7 @@ module _ (r : ResourceId) {w : List ℕ} {c : ℕ} (H : HasState w) (C : HeadCas
 
   module _ {b : Bool} (L : Reads (λ s. is_some_and (λ p. creates_under_key p.edit.operation) (nth 0 (queue r s))) w b) (t : ProviderEvent) where
     pub create_remaps : b ≡ true → {o w' o' w₁ o₁ : List ℕ} {p q a : Progress} {to : ResourceId} → to ≡ resource_of t → Does (remap r to) w o p a w₁ o₁ → Does (finish r none) w₁ o₁ a q w' o' → Does (plan_head r (some t)) w o p q w' o'
-    unfolding plan if◌then◌else◌
+    unfolding plan when◌then◌else◌
     create_remaps k e d f =
         let a' : assigns_ids making.0 ≡ true = sym (keyed_is L) ∙ k in
         plan_op r (some t) front.0 (Operation.Create making.0) front.1 making.1
@@ -264,7 +264,7 @@ module _ (r : ResourceId) {w : List ℕ} {c : ℕ} (H : HasState w) (C : HeadCas
       same_is = S making.0 t create_reads (begins_alone event_f t ok-t refl)
 
       pub create_same : {o w' o' : List ℕ} {p q : Progress} → v ≡ true → Does (finish r none) w o p q w' o' → Does (plan_head r (some t)) w o p q w' o'
-      unfolding plan if◌then◌else◌
+      unfolding plan when◌then◌else◌
       create_same y d =
           let a' : assigns_ids making.0 ≡ false = sym (keyed_is L) ∙ k in
           let s' : same fields_f t.fields making.0.fields ≡ true = sym same_is ∙ y in
@@ -272,7 +272,7 @@ module _ (r : ResourceId) {w : List ℕ} {c : ℕ} (H : HasState w) (C : HeadCas
           (runs.is (plan r front.0 (Operation.Create making.0) (some t)) (λ m. sym (rw (a', s'))) d)
 
       pub create_differs : {o w' o' : List ℕ} {p q : Progress} → v ≡ false → Does (finish r (some Rejection.Exists)) w o p q w' o' → Does (plan_head r (some t)) w o p q w' o'
-      unfolding plan if◌then◌else◌
+      unfolding plan when◌then◌else◌
       create_differs y d =
           let a' : assigns_ids making.0 ≡ false = sym (keyed_is L) ∙ k in
           let s' : same fields_f t.fields making.0.fields ≡ false = sym same_is ∙ y in
@@ -285,13 +285,13 @@ module _ (r : ResourceId) {w : List ℕ} {c : ℕ} (H : HasState w) (C : HeadCas
     collided_is = L.is H.state H.keeps ∙ sym (ap (is_some_and (λ p. p.collided)) (front.1.is H.state H.keeps))
 
     pub create_collides : {o w' o' : List ℕ} {p q : Progress} → b ≡ true → Does (finish r (some Rejection.Exists)) w o p q w' o' → Does (plan_head r none) w o p q w' o'
-    unfolding plan if◌then◌else◌
+    unfolding plan when◌then◌else◌
     create_collides k d =
         let c' : front.0.collided ≡ true = sym collided_is ∙ k in
         plan_op r none front.0 (Operation.Create making.0) front.1 making.1 (runs.is (plan r front.0 (Operation.Create making.0) none) (λ m. sym (rw c')) d)
 
     pub create_writes : {o w' o' : List ℕ} {p q : Progress} → b ≡ false → ((e : ProviderEvent) → Reads (λ s. created (nth 0 (queue r s))) w (some e) → Does (request (Purpose.EditWrite r) (Request.Create r e)) w o p q w' o') → Does (plan_head r none) w o p q w' o'
-    unfolding plan if◌then◌else◌
+    unfolding plan when◌then◌else◌
     create_writes k D =
         let c' : front.0.collided ≡ false = sym collided_is ∙ k in
         plan_op r none front.0 (Operation.Create making.0) front.1 making.1 (runs.is (plan r front.0 (Operation.Create making.0) none) (λ m. sym (rw c')) (D making.0 create_reads))

@@ -2,7 +2,7 @@
 use Rattle.std.specs.Prelude.{ℕ, zero, suc, ◌+◌, ◌-◌, ◌≡◌, List, Bool, eqb, length}
 use Rattle.model.specs.Seam.{ResourceId}
 use Rattle.model.specs.State.{SyncState}
-use Rattle.model.specs.Maps.{if◌then◌else◌}
+use Rattle.model.specs.Maps.{when◌then◌else◌}
 use Rattle.state.specs.Contract.{Keeps}
 use Rattle.waiting.specs.Queues.{queue, nth, moved}
 use Rattle.waiting.specs.Reading.{operation_case_of}
@@ -12,11 +12,11 @@ unfoldable pub stays_at : ResourceId → ℕ → SyncState → Bool
 stays_at from j s = eqb (operation_case_of (nth j (queue from s))) 0
 
 unfoldable pub one_moved : ResourceId → ℕ → ResourceId → SyncState → SyncState
-one_moved from j to s = if stays_at from j s then s else moved from j to s
+one_moved from j to s = when stays_at from j s then s else moved from j to s
 
 -- where the next one stands
 unfoldable pub place_after : ResourceId → ℕ → SyncState → ℕ
-place_after from j s = if stays_at from j s then j + 1 else j
+place_after from j s = when stays_at from j s then j + 1 else j
 
 pub record MovesOne (from : ResourceId) (j : ℕ) (to : ResourceId) (w : List ℕ) (r : ℕ) (w' : List ℕ) : Type 0 where
   pub next : (s : SyncState) → Keeps s w → r ≡ place_after from j s

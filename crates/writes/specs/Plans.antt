@@ -5,7 +5,7 @@ use Rattle.model.specs.Event.{NormalizedEvent, ProviderEvent}
 use Rattle.model.specs.Parts.{Role, MergeOutcome}
 use Rattle.model.specs.Seam.{ResourceId, Request}
 use Rattle.model.specs.State.{SyncState, Purpose}
-use Rattle.model.specs.Maps.{if◌then◌else◌}
+use Rattle.model.specs.Maps.{when◌then◌else◌}
 use Rattle.model.specs.Machine.{Machine, Run, ok, request, match◌none:◌some:◌}
 use Rattle.model.specs.Formats.{fields_f}
 use Rattle.model.specs.Sync.{change_front, head, plan, finish}
@@ -54,7 +54,7 @@ HeadCase r w c = Reads (λ s. operation_case_of (nth 0 (queue r s))) w c
 -- `plan_update` from its merge on
 unfoldable pub send_merged : ResourceId → ProviderEvent → MergeOutcome → Machine → Run
 send_merged r theirs merged m =
-    if merged.changed
+    when merged.changed
     then request (Purpose.EditWrite r) (Request.Update r theirs.revision merged.event) m
     else finish r none m
 
