@@ -1,6 +1,6 @@
 /*
- * The loading-bay calendar engine, from C and C++: link libzagyvelon.a (`rt staticlib zagyvelon`), which needs nothing but
- * memcpy, memmove and memset. x86-64 Linux.
+ * The loading-bay calendar engine, from C and C++: link libzagyvelon.a (`tools/built zagyvelon` makes it), which needs nothing
+ * but memcpy, memmove and memset. x86-64 Linux.
  *
  * A step takes one input frame and gives the effects to perform, in order. docs/FRAMES.md has the bytes of every type, with its
  * fields, cases and limits, and examples. In short: fields stand one after the other; an enum starts with one byte, its case's

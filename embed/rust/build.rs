@@ -10,7 +10,7 @@ fn main() {
     let archive = folder.join("libzagyvelon.a");
     assert!(
         archive.is_file(),
-        "no {}: run `rt staticlib zagyvelon` in the repository, or set {FOLDER}",
+        "no {}: run `tools/built zagyvelon` in the repository, or set {FOLDER}",
         archive.display()
     );
     println!("cargo:rustc-link-search=native={}", folder.display());
@@ -21,5 +21,5 @@ fn main() {
 
 fn built_here() -> PathBuf {
     PathBuf::from(env::var_os("CARGO_MANIFEST_DIR").expect("cargo sets it"))
-        .join("../../target/staticlib")
+        .join("../../crates/zagyvelon/out")
 }
