@@ -2,13 +2,13 @@
 use Rattle.std.specs.Prelude.{ℕ, ◌≡◌, List, [], ◌∷◌}
 use Rattle.input.specs.Input.{handed_out}
 
--- what is held after lines: `after_Line held line` is what is held after one
+-- what is held after lines: `after_line held line` is what is held after one
 unfoldable pub after_lines : (List ℕ → List ℕ → List ℕ) → List ℕ → List (List ℕ) → List ℕ
-after_lines after_Line held [] = held
-after_lines after_Line held (line ∷ lines) = after_lines after_Line (after_Line held line) lines
+after_lines after_line held [] = held
+after_lines after_line held (line ∷ lines) = after_lines after_line (after_line held line) lines
 
 -- it is what is held after some lines of some input
-pub record Served (after_Line : List ℕ → List ℕ → List ℕ) (limit : ℕ) (held held' : List ℕ) : Type 0 where
+pub record Served (after_line : List ℕ → List ℕ → List ℕ) (limit : ℕ) (held held' : List ℕ) : Type 0 where
   pub calls : ℕ
   pub chunks : List (List ℕ)
-  pub is : held' ≡ after_lines after_Line held (handed_out limit calls chunks)
+  pub is : held' ≡ after_lines after_line held (handed_out limit calls chunks)
