@@ -1,10 +1,10 @@
 -- Laws of the attendees' part: one for each answer of each function, its premises the facts of the branches. Assumes nothing.
+use Rattle.std.specs.Prelude.{Some, None}
 use Prim.Native.Nat.{ℕ, suc, ◌+◌, ◌-◌, ◌≤◌, ◌<◌}
 use native.Mathlib.Omega.{arith}
 use native.Mathlib.Numerals.{add-one}
 use mathlib.Core.Path.{◌≡◌, refl, sym, ap, ◌∙◌}
 use mathlib.Core.List.{List, [], ◌∷◌, ◌++◌}
-use mathlib.Core.Option.{none, some}
 use mathlib.Core.Bool.{Bool, true, false, cond, not, ◌&&◌, and-true}
 use lib.Dec.{leb, ltb, eqb}
 use lib.ListN.{length, get_or}
@@ -18,7 +18,7 @@ use Rattle.model.proofs.FormatsLaws.{short_text_law}
 use Rattle.comparison.proofs.Laws.{same_nil, same_cons}
 use Rattle.frame.specs.Read.{skips, start, value_at, value_of}
 use Rattle.frame.specs.declared.Cursor.{Cursor}
-use Rattle.comparison.specs.Bytes.{same_folded, raw, is_ours, is_conflict, is_refused, span}
+use Rattle.comparison.specs.Bytes.{same_folded, raw, span}
 use Rattle.attendees.specs.Entries.{entry_count, entry_at, entry_bytes, address_of, one_if, tally_of, occurrence_of, find_from, find_bytes, shown_address, head_of, reply_of, kind_of, same_rest, judge_whole, judge_removed, rest_refused, judge_standing, judge_own, judge_of, entry_value_items, side_bytes, entry_refused, entry_conflict, entry_items, own_of, key_items, our_key_items, their_items, our_items, entries_items}
 use Rattle.attendees.specs.declared.judging.Judged.{Judged}
 
@@ -115,8 +115,8 @@ unfolding address_of value_at
 address_short s = go (short_text.dec s) refl
   where
     go : (x : Got (List ℕ)) → short_text.dec s ≡ x → length (value_of [] x) ≤ 255
-    go none e = omega arith
-    go (some r) e = text_ok r.0 (short_text_law.reads s r e).1
+    go None e = omega arith
+    go (Some r) e = text_ok r.0 (short_text_law.reads s r e).1
 
 pub shown_short : (b o t r : List ℕ) → r ≡ shown_address b o t → length r ≤ 255
 unfolding shown_address
@@ -151,15 +151,6 @@ module _ (b o t : List ℕ) (x : Bool) (e : x ≡ same_rest o b) where
 
   pub rest_other : x ≡ false → (y : Bool) → y ≡ same_rest o t → not y ≡ rest_refused b o t
   rest_other h y f = rw (← e, h, f)
-
-pub standing_is : (b o t : List ℕ) (x y z : Bool) (p q r s : ℕ) (v : Verdict) → x ≡ rest_refused b o t → p ≡ reply_of b → q ≡ reply_of o → r ≡ reply_of t
-    → v ≡ verdict raw (p ∷ []) (q ∷ []) (r ∷ []) true → y ≡ is_ours v → s ≡ cond y (reply_of o) (reply_of t) → z ≡ is_conflict v
-    → ◌≡◌ {A = Judged} (record { ours = false; reply = s; conflict = z; refused = x }) (judge_standing b o t)
-standing_is b o t x y z p q r s v e f g h i j k l = rw (e, k, l, j, i, f, g, h)
-
-pub whole_is : (b o t : List ℕ) (owned : Bool) (x y z : Bool) (s : ℕ) (v : Verdict) → v ≡ verdict raw b o t owned → x ≡ is_ours v → s ≡ cond x (reply_of o) (reply_of t)
-    → y ≡ is_conflict v → z ≡ is_refused v → ◌≡◌ {A = Judged} (record { ours = x; reply = s; conflict = y; refused = z }) (judge_whole b o t owned)
-whole_is b o t owned x y z s v e f g h i = rw (g, h, i, f, e)
 
 module _ (b o t : List ℕ) (j : Judged) where
   pub own_new : length b ≡ 0 → j ≡ judge_whole b o t false → j ≡ judge_own b o t

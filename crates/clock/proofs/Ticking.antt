@@ -1,8 +1,8 @@
 -- One queue at a tick, and all of them. Assumes nothing.
+use Rattle.std.specs.Prelude.{Some}
 use Prim.Native.Nat.{ℕ}
 use mathlib.Core.Path.{◌≡◌, refl, sym, ap, ap₂, ◌∙◌, subst}
 use mathlib.Core.List.{List, [], ◌∷◌}
-use mathlib.Core.Option.{some}
 use mathlib.Core.Bool.{Bool, true, false, not, ◌&&◌, false≢true}
 use lib.ListN.{drop}
 use Rattle.model.specs.Seam.{ResourceId}
@@ -118,6 +118,6 @@ each_at {w = w} {o} {w₁} {o₁} {p} {q} e D = subst (λ (t : Timestamp). Does 
 
 -- ---- all of them
 
-pub ticks : (at : Timestamp) {w w₁ o w₂ o₂ : List ℕ} {p q : Progress} → Edits (with_now (some at)) w w₁ → Does (tick_each at) w₁ o p q w₂ o₂ → Does (tick at) w o p q w₂ o₂
+pub ticks : (at : Timestamp) {w w₁ o w₂ o₂ : List ℕ} {p q : Progress} → Edits (with_now (Some at)) w w₁ → Does (tick_each at) w₁ o p q w₂ o₂ → Does (tick at) w o p q w₂ o₂
 unfolding tick set_now
 ticks at E D = runs.is (tick at) (λ m. refl) (runs.edit {g = tick_each at} E D)

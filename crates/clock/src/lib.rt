@@ -1,8 +1,7 @@
 // Time: edits that are past their expiry.
 #![tactic(auto)]
 
-ghost use Rattle.std.specs.Prelude.{[], ◌∷◌, drop};
-ghost use Rattle.std.proofs.Math.Option.{some};
+ghost use Rattle.std.specs.Prelude.{[], ◌∷◌, drop, Some};
 ghost use Rattle.format.specs.Format.{stamp};
 ghost use Rattle.model.specs.State.{Pending, Queue};
 ghost use Rattle.model.specs.Calls.{Notice, Effect};
@@ -15,7 +14,7 @@ ghost use Rattle.clock.specs.Expiring.{tell_due, kept_behind, unless_due, head_f
 
 use machine::Progress;
 use names::Name;
-use state::Kind;
+use state::Purpose;
 
 // ---- SyncState::tick: notices
 
@@ -31,7 +30,7 @@ fn tell_id(out: &mut [u8], p: Progress, id: Name) -> Progress
 fn tell_expired(work: &[u8], out: &mut [u8], p: Progress, name: Name, j: usize) -> Progress
     requires has_state { HasState work.now }
     requires named { Named name.bytes }
-    ensures { (e : Pending) → Reads (λ s. nth j (queue (name_of name.bytes) s)) work.now (some e) → Does (tell_expired e) work.now out.old p result work.now out.new }
+    ensures { (e : Pending) → Reads (λ s. nth j (queue (name_of name.bytes) s)) work.now (Some e) → Does (tell_expired e) work.now out.old p result work.now out.new }
 {
     let n = waiting::ids_count(work, name, j);
     let mut q = p;
@@ -48,7 +47,7 @@ fn tell_expired(work: &[u8], out: &mut [u8], p: Progress, name: Name, j: usize) 
 fn tell_if_due(work: &[u8], out: &mut [u8], p: Progress, name: Name, j: usize, at: i64) -> Progress
     requires has_state { HasState work.now }
     requires named { Named name.bytes }
-    ensures { (e : Pending) → Reads (λ s. nth j (queue (name_of name.bytes) s)) work.now (some e) → Does (tell_due at (e ∷ [])) work.now out.old p result work.now out.new }
+    ensures { (e : Pending) → Reads (λ s. nth j (queue (name_of name.bytes) s)) work.now (Some e) → Does (tell_due at (e ∷ [])) work.now out.old p result work.now out.new }
 {
     if waiting::is_due(work, name, j, at) {
         return tell_expired(work, out, p, name, j);
@@ -103,7 +102,7 @@ fn head_falls(work: &[u8], name: Name, at: i64) -> bool
     ensures { Reads (head_falls at (name_of name.bytes)) work.now result }
 {
     if waiting::is_due(work, name, 0, at) {
-        return !state::asks(work, Kind::EditWrite, name);
+        return !state::asks(work, Purpose::EditWrite(name));
     }
     false
 }
@@ -115,7 +114,7 @@ fn tick_resource(work: &mut [u8], out: &mut [u8], p: Progress, name: Name, at: i
 {
     if head_falls(work, name, at) {
         let q = tell_due(work, out, p, name, 0, at);
-        state::drop_in_flight(work, Kind::EditRead, name);
+        state::drop_in_flight(work, Purpose::EditRead(name));
         drop_due(work, name, 0, at);
         return queues::start_edit(work, out, q, name);
     }
@@ -145,6 +144,6 @@ pub fn tick(work: &mut [u8], out: &mut [u8], p: Progress, at: i64) -> Progress
     requires ok { stamp.Ok at }
     ensures { Does (tick at) work.old out.old p result work.new out.new }
 {
-    state::set_now(work, queues::bits_of(at));
+    state::set_now(work, at);
     tick_each(work, out, p, at)
 }

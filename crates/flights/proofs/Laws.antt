@@ -1,9 +1,9 @@
 -- The requests in flight: each law's premises are what the callees ensure. Assumes nothing.
+use Rattle.std.specs.Prelude.{Some, None}
 use Prim.Native.Nat.{ℕ, zero, suc, ◌+◌, ◌*◌, ◌^◌, ◌≤◌, ◌<◌}
 use native.Mathlib.Omega.{arith}
 use mathlib.Core.Path.{◌≡◌, refl, sym, ap, ap₂, ◌∙◌, subst}
 use mathlib.Core.List.{List, [], ◌∷◌}
-use mathlib.Core.Option.{none, some}
 use mathlib.Core.Bool.{Bool, true, false, not, ◌||◌, or-false}
 use lib.ListN.{length, take, drop, get_or}
 use lib.Seq.{drop-drop, take_all, get_or-take, get_or-drop}
@@ -13,7 +13,7 @@ use Rattle.format.specs.Utf8.{is_text, chars}
 use Rattle.spans.specs.Bytes.{zeros}
 use Rattle.spans.specs.Compare.{order}
 use Rattle.tables.specs.Table.{Table, Sized, enc_table, text, place, keep_slots, keeps, against}
-use Rattle.tables.specs.declared.Place.TheVariants.{Found, Missing}
+use Rattle.std.specs.declared.result.Result.TheVariants.{Ok, Err}
 use Rattle.tables.proofs.Laws as tables
 use Rattle.lent.specs.Lent.{part, placed}
 use Rattle.model.specs.Event.{Text}
@@ -28,14 +28,15 @@ use Rattle.model.proofs.Fitting.{any_same}
 use Rattle.state.specs.Layout.{padded, field, name_slot, number_key, flight_slot}
 use Rattle.state.specs.Setters.{with_in_flight}
 use Rattle.state.specs.Contract.{state_length, Keeps, HasState, Reads, Edits}
-use Rattle.state.specs.Values.{name_of, Named, purpose_of, kind_byte}
-use Rattle.state.specs.declared.Kind.{Kind}
-use Rattle.state.specs.declared.Kind.TheVariants as kind
-use Rattle.state.proofs.Padded.{length_name, text_number_only}
+use Rattle.names.specs.declared.Name.{Name}
+use Rattle.state.specs.Values.{name_of, Named, NamedIn, purpose_in}
+use Rattle.state.specs.declared.Purpose.{Purpose as Asked}
+use Rattle.state.specs.declared.Purpose.TheVariants as asked
+use Rattle.state.proofs.Padded.{length_name, length_number, text_number_only}
 use Rattle.state.proofs.Columns as columns
 use Rattle.state.proofs.Ops as ops
 use Rattle.state.proofs.Bridge as bridge
-use Rattle.flights.specs.Asked.{purpose_in}
+use Rattle.flights.specs.Asked.{purpose_of}
 
 -- ---- the bytes of a purpose
 
@@ -66,36 +67,14 @@ name_bytes (Purpose.EditRead r) = ap (drop 1) (sym (ops.named_purpose 2 r))
 name_bytes (Purpose.EditWrite r) = ap (drop 1) (sym (ops.named_purpose 3 r))
 name_bytes (Purpose.Refresh r) = ap (drop 1) (sym (ops.named_purpose 4 r))
 
--- the kind of a byte
-abbrev kind_from : ℕ → Kind
-kind_from zero = kind.List
-kind_from (suc zero) = kind.PassRead
-kind_from (suc (suc zero)) = kind.EditRead
-kind_from (suc (suc (suc zero))) = kind.EditWrite
-kind_from (suc (suc (suc (suc n)))) = kind.Refresh
-
-from_byte : (k : Kind) → kind_from (kind_byte k) ≡ k
-from_byte kind.List = refl
-from_byte kind.PassRead = refl
-from_byte kind.EditRead = refl
-from_byte kind.EditWrite = refl
-from_byte kind.Refresh = refl
-
-five_kinds : (p : Purpose) → get_or (field 34 purpose_f p) 0 0 ≤ 4
-unfolding purpose_f via enum ◌∣◌ nothing padded
-five_kinds Purpose.List = omega arith
-five_kinds (Purpose.PassRead r) = omega arith
-five_kinds (Purpose.EditRead r) = omega arith
-five_kinds (Purpose.EditWrite r) = omega arith
-five_kinds (Purpose.Refresh r) = omega arith
-
-whole : (p : Purpose) → purpose_of (kind_from (get_or (field 34 purpose_f p) 0 0)) (name_in p) ≡ p
+-- a purpose is read back from its case and its name
+whole : (p : Purpose) (q : List ℕ) → name_of q ≡ name_in p → Named q → let x = purpose_of (get_or (field 34 purpose_f p) 0 0) (record { bytes = q }) in (purpose_in x ≡ p) × NamedIn x
 unfolding name_in purpose_f via enum ◌∣◌ nothing padded
-whole Purpose.List = refl
-whole (Purpose.PassRead r) = refl
-whole (Purpose.EditRead r) = refl
-whole (Purpose.EditWrite r) = refl
-whole (Purpose.Refresh r) = refl
+whole Purpose.List q e n = (refl, tt)
+whole (Purpose.PassRead r) q e n = (ap Purpose.PassRead e, n)
+whole (Purpose.EditRead r) q e n = (ap Purpose.EditRead e, n)
+whole (Purpose.EditWrite r) q e n = (ap Purpose.EditWrite e, n)
+whole (Purpose.Refresh r) q e n = (ap Purpose.Refresh e, n)
 
 drop_more : (n m : ℕ) (x : List ℕ) → drop (n + m) x ≡ drop m (drop n x)
 drop_more n m x = sym (drop-drop m n x)
@@ -112,43 +91,45 @@ name_is w q p e ok h d =
     ∙ ap (take 33) (drop_more 9 1 (flight_slot e) ∙ ap (drop 1) (ops.flight_value e) ∙ name_bytes e.1)
     ∙ take_all 33 (name_slot (name_in e.1)) (omega (arith, length_name (name_in e.1) (name_ok e.1 ok.1)))
 
+abbrev Reads_back : Asked → Purpose → Type 0
+Reads_back x p = (purpose_in x ≡ p) × NamedIn x
+
 -- what stands there, read
-asked : (w q : List ℕ) (p : ℕ) (k : Kind) (e : RequestId × Purpose) → Fit e → take 43 (drop p w) ≡ flight_slot e → (get_or w (p + 9) 0 ≤ 4 → kind_byte k ≡ get_or w (p + 9) 0) → q ≡ take 33 (drop (p + 9 + 1) w)
-    → (purpose_of k (name_of q) ≡ e.1) × Named q
-asked w q p k e ok h d f =
-    let n = ops.slot_named q (name_in e.1) (name_ok e.1 ok.1) (name_is w q p e ok h f) in
-    let b = first_is w p e h in
-    let l : get_or w (p + 9) 0 ≤ 4 = subst (λ (x : ℕ). x ≤ 4) (sym b) (five_kinds e.1) in
-    (ap₂ purpose_of (sym (from_byte k) ∙ ap kind_from (d l ∙ b)) n.0 ∙ whole e.1, n.1)
+read_back : (w : List ℕ) (p : ℕ) (e : RequestId × Purpose) → Fit e → take 43 (drop p w) ≡ flight_slot e
+    → Reads_back (purpose_of (get_or w (p + 9) 0) (record { bytes = take 33 (drop (p + 9 + 1) w) })) e.1
+read_back w p e ok h =
+    let q = take 33 (drop (p + 9 + 1) w) in
+    let n = ops.slot_named q (name_in e.1) (name_ok e.1 ok.1) (name_is w q p e ok h refl) in
+    subst (λ (b : ℕ). Reads_back (purpose_of b (record { bytes = q })) e.1) (sym (first_is w p e h)) (whole e.1 q n.0 n.1)
 
 -- ---- by number
 
-pub found : (key w q : List ℕ) (n p : ℕ) (k : Kind) → n < 2 ^ 64 → key ≡ number_key n → HasState w
-    → ((t : Table) → Sized 43 t → part 55643 1033 w ≡ enc_table 1033 t → Found p ≡ place 43 key t 1)
-    → (get_or w (55643 + p + 9) 0 ≤ 4 → kind_byte k ≡ get_or w (55643 + p + 9) 0) → q ≡ take 33 (drop (55643 + p + 9 + 1) w)
-    → Reads (λ s. get by_number n s.in_flight) w (purpose_in true k q) × Named q
+pub key_long : (n : ℕ) (key : List ℕ) → key ≡ number_key n → length key ≡ 9
+key_long n key e = ap length e ∙ length_number n
+
+abbrev Stood : List ℕ → ℕ → Asked
+Stood w p = purpose_of (get_or w (55643 + p + 9) 0) (record { bytes = take 33 (drop (55643 + p + 9 + 1) w) })
+
+pub found : (key w : List ℕ) (n p : ℕ) (x : Asked) → n < 2 ^ 64 → key ≡ number_key n → HasState w
+    → ((t : Table) → Sized 43 t → part 55643 1033 w ≡ enc_table 1033 t → Ok p ≡ place 43 key t 1)
+    → x ≡ Stood w p → Reads (λ s. get by_number n s.in_flight) w (Some (purpose_in x)) × NamedIn x
 unfolding number
-found key w q n p k l d K g a b = (
+found key w n p x l d K g e = (
   record {
     is = λ s h.
         let H = columns.there ops.flight_column key w n p l (ap text d ∙ text_number_only n) s h g in
-        ap some (asked w q (55643 + p) k H.e H.fits H.bytes a b).0 ∙ sym H.got;
+        ap (λ (y : Asked). Some (purpose_in y)) e ∙ ap Some (read_back w (55643 + p) H.e H.fits H.bytes).0 ∙ sym H.got;
   },
-  (let H = columns.there ops.flight_column key w n p l (ap text d ∙ text_number_only n) K.state K.keeps g in (asked w q (55643 + p) k H.e H.fits H.bytes a b).1),
+  (let H = columns.there ops.flight_column key w n p l (ap text d ∙ text_number_only n) K.state K.keeps g in subst NamedIn (sym e) (read_back w (55643 + p) H.e H.fits H.bytes).1),
 )
 
-blank_named : Named (zeros 33)
-unfolding text-format is_text chars padded text
-blank_named = record { is = refl; ok = (omega arith, refl) }
-
 pub missing : (key w : List ℕ) (n p : ℕ) → n < 2 ^ 64 → key ≡ number_key n
-    → ((t : Table) → Sized 43 t → part 55643 1033 w ≡ enc_table 1033 t → Missing p ≡ place 43 key t 1)
-    → Reads (λ s. get by_number n s.in_flight) w none × Named (zeros 33)
+    → ((t : Table) → Sized 43 t → part 55643 1033 w ≡ enc_table 1033 t → Err p ≡ place 43 key t 1) → Reads (λ s. get by_number n s.in_flight) w None
 unfolding number
-missing key w n p l d g = (record { is = λ s h. sym (columns.not_there ops.flight_column key w n p l (ap text d ∙ text_number_only n) s h g) }, blank_named)
+missing key w n p l d g = record { is = λ s h. sym (columns.not_there ops.flight_column key w n p l (ap text d ∙ text_number_only n) s h g) }
 
 pub found_room : (key w : List ℕ) (n p : ℕ) → n < 2 ^ 64 → key ≡ number_key n → HasState w
-    → ((t : Table) → Sized 43 t → part 55643 1033 w ≡ enc_table 1033 t → Found p ≡ place 43 key t 1) → 55643 + p + 43 ≤ state_length
+    → ((t : Table) → Sized 43 t → part 55643 1033 w ≡ enc_table 1033 t → Ok p ≡ place 43 key t 1) → 55643 + p + 43 ≤ state_length
 unfolding number
 found_room key w n p l d K g = (columns.there ops.flight_column key w n p l (ap text d ∙ text_number_only n) K.state K.keeps g).room
 
@@ -177,7 +158,7 @@ first_byte : (e : RequestId × Purpose) → take 1 (drop 9 (flight_slot e)) ≡ 
 first_byte e = ap (take 1) (ops.flight_value e)
 
 pass_read_byte : (p : Purpose) → keeps false (order (take 1 (field 34 purpose_f p)) (1 ∷ [])) ≡ not (is_pass_read p)
-unfolding order is_pass_read purpose_f via enum ◌∣◌ nothing padded
+unfolding is_pass_read purpose_f via enum ◌∣◌ nothing padded
 pass_read_byte Purpose.List = refl
 pass_read_byte (Purpose.PassRead r) = refl
 pass_read_byte (Purpose.EditRead r) = refl
@@ -185,7 +166,7 @@ pass_read_byte (Purpose.EditWrite r) = refl
 pass_read_byte (Purpose.Refresh r) = refl
 
 of_pass_byte : (p : Purpose) → keeps true (order (take 1 (field 34 purpose_f p)) (1 ∷ [])) ≡ not (is_of_pass p)
-unfolding order is_of_pass purpose_f via enum ◌∣◌ nothing padded
+unfolding is_of_pass purpose_f via enum ◌∣◌ nothing padded
 of_pass_byte Purpose.List = refl
 of_pass_byte (Purpose.PassRead r) = refl
 of_pass_byte (Purpose.EditRead r) = refl
@@ -271,9 +252,10 @@ about_last r w a b c d A x B y C z D = record {
       ∙ ap (λ (d : Bool). d || Asks Purpose.Refresh r s) (sym (C.is s h) ∙ z));
 }
 
-pub kind_last : (n : ℕ) → (n ≡ 0 → ⊥) → (n ≡ 1 → ⊥) → (n ≡ 2 → ⊥) → (n ≡ 3 → ⊥) → n ≤ 4 → kind_byte kind.Refresh ≡ n
-kind_last zero a b c d l = absurd (a refl)
-kind_last (suc zero) a b c d l = absurd (b refl)
-kind_last (suc (suc zero)) a b c d l = absurd (c refl)
-kind_last (suc (suc (suc zero))) a b c d l = absurd (d refl)
-kind_last (suc (suc (suc (suc n)))) a b c d l = omega arith
+-- the last case
+pub refresh_last : (b : ℕ) (name : Name) (bytes : List ℕ) → name.bytes ≡ bytes → ¬ (b ≡ 0) → ¬ (b ≡ 1) → ¬ (b ≡ 2) → ¬ (b ≡ 3) → asked.Refresh name ≡ purpose_of b (record { bytes = bytes })
+refresh_last zero name bytes e k l m n = absurd (k refl)
+refresh_last (suc zero) name bytes e k l m n = absurd (l refl)
+refresh_last (suc (suc zero)) name bytes e k l m n = absurd (m refl)
+refresh_last (suc (suc (suc zero))) name bytes e k l m n = absurd (n refl)
+refresh_last (suc (suc (suc (suc b)))) name bytes e k l m n = ap (λ (x : List ℕ). asked.Refresh (record { bytes = x })) e

@@ -1,9 +1,9 @@
 -- The list of the names of the Refreshes: one entry more, and the whole. Assumes nothing.
+use Rattle.std.specs.Prelude.{Option, Some, None}
 use Prim.Native.Nat.{ℕ, suc, ◌+◌, ◌-◌, ◌*◌, ◌≤◌, ◌<◌}
 use native.Mathlib.Omega.{arith}
 use mathlib.Core.Path.{◌≡◌, refl, sym, ap, ap₂, ◌∙◌, subst}
 use mathlib.Core.List.{List, [], ◌∷◌, ◌++◌, append_assoc, append-nil}
-use mathlib.Core.Option.{Option, none, some}
 use lib.ListN.{length, take, drop, get_or, length-append, length-replicate, replicate-append-replicate}
 use lib.Seq.{take_at, drop_at, drop-append-add, take-suc, take_all}
 use Rattle.format.specs.Format.{via, enum, ◌∣◌, nothing}
@@ -41,13 +41,13 @@ refreshed_append [] b = refl
 refreshed_append (p ∷ a) b = go (refreshed p) (refreshed_append a b)
   where
     go : (o : Option Text) → filter_map refreshed (a ++ b) ≡ filter_map refreshed a ++ filter_map refreshed b
-        → elim o [ none ↦ filter_map refreshed (a ++ b) | some y ↦ y ∷ filter_map refreshed (a ++ b) ] ≡ (elim o [ none ↦ filter_map refreshed a | some y ↦ y ∷ filter_map refreshed a ]) ++ filter_map refreshed b
-    go none h = h
-    go (some y) h = ap (λ (x : List Text). y ∷ x) h
+        → elim o [ None ↦ filter_map refreshed (a ++ b) | Some y ↦ y ∷ filter_map refreshed (a ++ b) ] ≡ (elim o [ None ↦ filter_map refreshed a | Some y ↦ y ∷ filter_map refreshed a ]) ++ filter_map refreshed b
+    go None h = h
+    go (Some y) h = ap (λ (x : List Text). y ∷ x) h
 
-one : (p : Purpose) (o : Option Text) → refreshed p ≡ o → filter_map refreshed (p ∷ []) ≡ elim o [ none ↦ [] | some y ↦ y ∷ [] ]
+one : (p : Purpose) (o : Option Text) → refreshed p ≡ o → filter_map refreshed (p ∷ []) ≡ elim o [ None ↦ [] | Some y ↦ y ∷ [] ]
 unfolding filter_map
-one p o e = ap (λ (x : Option Text). elim x [ none ↦ [] | some y ↦ y ∷ [] ]) e
+one p o e = ap (λ (x : Option Text). elim x [ None ↦ [] | Some y ↦ y ∷ [] ]) e
 
 -- the names among one entry more
 more : (i : ℕ) (s : SyncState) → i < length s.in_flight → lost_of (i + 1) s ≡ lost_of i s ++ filter_map refreshed ((entry i s).1 ∷ [])
@@ -61,7 +61,7 @@ more i s l =
 
 -- ---- what the first byte says
 
-refresh_byte : (p : Purpose) (n : ℕ) → n ≡ get_or (field 34 purpose_f p) 0 0 → (n ≡ 4 → refreshed p ≡ some (name_in p)) × ((n ≡ 4 → ⊥) → refreshed p ≡ none)
+refresh_byte : (p : Purpose) (n : ℕ) → n ≡ get_or (field 34 purpose_f p) 0 0 → (n ≡ 4 → refreshed p ≡ Some (name_in p)) × ((n ≡ 4 → ⊥) → refreshed p ≡ None)
 unfolding name_in refreshed purpose_f via enum ◌∣◌ nothing padded
 refresh_byte Purpose.List n e = (λ z. absurd (omega arith), λ z. refl)
 refresh_byte (Purpose.PassRead r) n e = (λ z. absurd (omega arith), λ z. refl)
@@ -94,8 +94,8 @@ noted_none w b i n first K l N e z = record {
   is = λ s h.
       let u = laws.nth w i s h l in
       let p : Purpose = (entry i s).1 in
-      let r : refreshed p ≡ none = (refresh_byte p first (e ∙ laws.first_is w (55643 + 1 + i * 43) (entry i s) u.0)).1 z in
-      let m : lost_of (i + 1) s ≡ lost_of i s = more i s u.2 ∙ ap (λ (x : List Text). lost_of i s ++ x) (one p none r) ∙ append-nil (lost_of i s) in
+      let r : refreshed p ≡ None = (refresh_byte p first (e ∙ laws.first_is w (55643 + 1 + i * 43) (entry i s) u.0)).1 z in
+      let m : lost_of (i + 1) s ≡ lost_of i s = more i s u.2 ∙ ap (λ (x : List Text). lost_of i s ++ x) (one p None r) ∙ append-nil (lost_of i s) in
       subst (λ (x : List Text). Listed x n b) (sym m) (N.is s h);
 }
 
@@ -123,8 +123,8 @@ noted_one w b b' q i n first K l N e z f g d = record {
   is = λ s h.
       let u = laws.nth w i s h l in
       let p : Purpose = (entry i s).1 in
-      let r : refreshed p ≡ some (name_in p) = (refresh_byte p first (e ∙ laws.first_is w (55643 + 1 + i * 43) (entry i s) u.0)).0 z in
-      let m : lost_of (i + 1) s ≡ lost_of i s ++ (name_in p ∷ []) = more i s u.2 ∙ ap (λ (x : List Text). lost_of i s ++ x) (one p (some (name_in p)) r) in
+      let r : refreshed p ≡ Some (name_in p) = (refresh_byte p first (e ∙ laws.first_is w (55643 + 1 + i * 43) (entry i s) u.0)).0 z in
+      let m : lost_of (i + 1) s ≡ lost_of i s ++ (name_in p ∷ []) = more i s u.2 ∙ ap (λ (x : List Text). lost_of i s ++ x) (one p (Some (name_in p)) r) in
       let c = (laws.few w i K l).0 in
       let o = N.low in
       subst (λ (x : List Text). Listed x (n + 1) b') (sym m)

@@ -1,22 +1,25 @@
 -- Requests in flight by value, and a list of names by value. Assumes nothing.
-use Rattle.std.specs.Prelude.{ℕ, ◌≤◌, ◌≡◌, List as Vec, Bool, true, false, length, take}
-use Rattle.std.proofs.Math.Option.{Option, none, some}
+use Rattle.std.specs.Prelude.{ℕ, zero, suc, ◌≤◌, ◌≡◌, List as Vec, length, take}
 use Rattle.format.specs.Format.{All}
 use Rattle.tables.specs.Table.{flat}
 use Rattle.model.specs.Event.{Text}
-use Rattle.model.specs.State.{Purpose, SyncState}
+use Rattle.model.specs.State.{SyncState}
 use Rattle.model.specs.Maps.{filter_map, map, values}
 use Rattle.model.specs.Sync.{refreshed}
 use Rattle.model.specs.Formats.{resource_id}
 use Rattle.state.specs.Layout.{padded, name_slot}
 use Rattle.state.specs.Contract.{Keeps}
-use Rattle.state.specs.Values.{name_of, purpose_of}
-use Rattle.state.specs.declared.Kind.{Kind}
+use Rattle.names.specs.declared.Name.{Name}
+use Rattle.state.specs.declared.Purpose.{Purpose}
+use Rattle.state.specs.declared.Purpose.TheVariants.{List, PassRead, EditRead, EditWrite, Refresh}
 
--- a kind and a name, if they were found
-abbrev pub purpose_in : Bool → Kind → Vec ℕ → Option Purpose
-purpose_in true k b = some (purpose_of k (name_of b))
-purpose_in false k b = none
+-- the purpose whose case is the number, with the name behind it
+abbrev pub purpose_of : ℕ → Name → Purpose
+purpose_of zero name = List
+purpose_of (suc zero) name = PassRead name
+purpose_of (suc (suc zero)) name = EditRead name
+purpose_of (suc (suc (suc zero))) name = EditWrite name
+purpose_of (suc (suc (suc (suc n)))) name = Refresh name
 
 -- `count` names in 792 bytes: 33 for each of at most 24, and zeros
 pub record Listed (names : Vec Text) (count : ℕ) (b : Vec ℕ) : Type 0 where

@@ -1,7 +1,7 @@
 // The requests in flight: what each is for, dropping those of a pass, and the names of the Refreshes.
 #![tactic(auto)]
 
-ghost use Rattle.std.specs.Prelude.{◌≡◌, not, ℕ, ◌+◌, ◌≤◌, ◌<◌, length, take, drop, get_or, List as Vec, []};
+ghost use Rattle.std.specs.Prelude.{◌≡◌, not, ℕ, ◌+◌, ◌≤◌, ◌<◌, length, take, drop, get_or, List as Vec, [], option_map, IfSome};
 ghost use Rattle.spans.specs.Bytes.{zeros};
 ghost use Rattle.model.specs.Event.{Text};
 ghost use Rattle.model.specs.Maps.{by_number, any, filter, get, values};
@@ -9,27 +9,11 @@ ghost use Rattle.model.specs.Sync.{is_pass_read, is_of_pass, asks_about};
 ghost use Rattle.state.specs.Layout.{name_slot};
 ghost use Rattle.state.specs.Setters.{with_in_flight};
 ghost use Rattle.state.specs.Contract.{HasState, Reads, Edits};
-ghost use Rattle.state.specs.Values.{name_of, Named, kind_byte};
-ghost use Rattle.flights.specs.Asked.{purpose_in, Listed, Lists, lost, Noted};
+ghost use Rattle.state.specs.Values.{name_of, Named, NamedIn, purpose_in};
+ghost use Rattle.flights.specs.Asked.{purpose_of, Listed, Lists, lost, Noted};
 
 use names::Name;
-use state::Kind;
-use tables::Place;
-
-// What a request is for. The name of a listing is empty.
-#[derive(Clone, Copy)]
-pub struct Asking {
-    pub kind: Kind,
-    pub name: Name,
-}
-
-// What a request is for, if it is in flight.
-#[derive(Clone, Copy)]
-pub struct Asked {
-    pub found: bool,
-    pub kind: Kind,
-    pub name: Name,
-}
+use state::{IN_FLIGHT, Purpose};
 
 // Names, 33 bytes each.
 #[derive(Clone, Copy)]
@@ -38,71 +22,33 @@ pub struct NameList {
     pub bytes: [u8; 792],
 }
 
-const IN_FLIGHT: usize = 55643;
+// Where the purpose stands in a slot, behind the request's number.
+const PURPOSE: usize = 9;
 
-const IN_FLIGHT_SIZE: usize = 1033;
-
-const IN_FLIGHT_SLOT: usize = 43;
-
-// The kind whose byte this is.
-fn kind_of(first: u8) -> Kind
-    ensures { first ≤ 4 → kind_byte result ≡ first }
-{
-    if first == 0 {
-        return Kind::List;
-    }
-    if first == 1 {
-        return Kind::PassRead;
-    }
-    if first == 2 {
-        return Kind::EditRead;
-    }
-    if first == 3 {
-        return Kind::EditWrite;
-    }
-    Kind::Refresh
-}
-
-// The purpose whose bytes stand at `at`.
-fn asking_at(work: &[u8], at: usize) -> Asking
+// The purpose whose bytes stand at `at`: its case, and a name.
+fn purpose_at(work: &[u8], at: usize) -> Purpose
     requires { at + 34 ≤ length work.now }
-    ensures { (get_or work.now at 0 ≤ 4 → kind_byte result.kind ≡ get_or work.now at 0) × (result.name.bytes ≡ take 33 (drop (at + 1) work.now)) }
+    ensures { result ≡ purpose_of (get_or work.now at 0) (record { bytes = take 33 (drop (at + 1) work.now) }) }
 {
-    let first = work[at];
-    let kind = kind_of(first);
     let name = names::name_at(work, at + 1);
-    Asking { kind, name }
+    match work[at] {
+        0 => Purpose::List,
+        1 => Purpose::PassRead(name),
+        2 => Purpose::EditRead(name),
+        3 => Purpose::EditWrite(name),
+        _ => Purpose::Refresh(name),
+    }
 }
 
 // What the request of a number is for.
-pub fn purpose(work: &[u8], n: u64) -> Asked
+pub fn purpose(work: &[u8], n: u64) -> Option<Purpose>
     requires { HasState work.now }
-    ensures reads { Reads (λ s. get by_number n s.in_flight) work.now (purpose_in result.found result.kind result.name.bytes) }
-    ensures named { Named result.name.bytes }
+    ensures reads { Reads (λ s. get by_number n s.in_flight) work.now (option_map purpose_in result) }
+    ensures named { IfSome result NamedIn }
 {
-    let k = state::key_of(n);
-    let key = k.bytes;
-    let p = lent::find_in(work, IN_FLIGHT, IN_FLIGHT_SIZE, IN_FLIGHT_SLOT, &key);
-    match p {
-        Place::Found(at) => {
-            let a = asking_at(work, IN_FLIGHT + at + 9);
-            let kind = a.kind;
-            let name = a.name;
-            return Asked {
-                found: true,
-                kind,
-                name,
-            };
-        }
-        Place::Missing(at) => {
-            let kind = Kind::List;
-            let name = Name { bytes: [0u8; 33] };
-            return Asked {
-                found: false,
-                kind,
-                name,
-            };
-        }
+    match IN_FLIGHT.find(work, &state::key_of(n)) {
+        Ok(at) => Some(purpose_at(work, IN_FLIGHT.at + at + PURPOSE)),
+        Err(_) => None,
     }
 }
 
@@ -111,16 +57,7 @@ pub fn drop_pass_reads(work: &mut [u8])
     requires { HasState work.old }
     ensures { Edits (λ s. with_in_flight (filter (λ e. not (is_pass_read e.1)) s.in_flight) s) work.old work.new }
 {
-    let read = [1u8; 1];
-    lent::sift_in(
-        work,
-        IN_FLIGHT,
-        IN_FLIGHT_SIZE,
-        IN_FLIGHT_SLOT,
-        9,
-        &read,
-        false,
-    );
+    IN_FLIGHT.sift(work, PURPOSE, &[1], false);
 }
 
 // Drops the listings and reads of a pass: the two first kinds.
@@ -128,34 +65,25 @@ pub fn drop_of_pass(work: &mut [u8])
     requires { HasState work.old }
     ensures { Edits (λ s. with_in_flight (filter (λ e. not (is_of_pass e.1)) s.in_flight) s) work.old work.new }
 {
-    let read = [1u8; 1];
-    lent::sift_in(
-        work,
-        IN_FLIGHT,
-        IN_FLIGHT_SIZE,
-        IN_FLIGHT_SLOT,
-        9,
-        &read,
-        true,
-    );
+    IN_FLIGHT.sift(work, PURPOSE, &[1], true);
 }
 
-// Whether a request about a name is in flight. Four times by kind and name, since a listing's bytes are those of an empty name.
+// Whether a request about a name is in flight. Four times by purpose, since a listing's bytes are those of an empty name.
 pub fn asks_about(work: &[u8], name: Name) -> bool
     requires has_state { HasState work.now }
     requires named { Named name.bytes }
     ensures { Reads (λ s. any (asks_about (name_of name.bytes)) (values s.in_flight)) work.now result }
 {
-    if state::asks(work, Kind::PassRead, name) {
+    if state::asks(work, Purpose::PassRead(name)) {
         return true;
     }
-    if state::asks(work, Kind::EditRead, name) {
+    if state::asks(work, Purpose::EditRead(name)) {
         return true;
     }
-    if state::asks(work, Kind::EditWrite, name) {
+    if state::asks(work, Purpose::EditWrite(name)) {
         return true;
     }
-    state::asks(work, Kind::Refresh, name)
+    state::asks(work, Purpose::Refresh(name))
 }
 
 // ---- the Refreshes
@@ -166,14 +94,13 @@ fn note(work: &[u8], i: usize, names: &mut [u8], n: usize) -> usize
     requires i_bound { (i < get_or work.now 55643 0) × (Noted i n work.now names.old) }
     ensures { Noted (i + 1) result work.now names.new }
 {
-    let at = IN_FLIGHT + 1 + i * IN_FLIGHT_SLOT + 9;
+    let at = IN_FLIGHT.at + 1 + i * IN_FLIGHT.stride + PURPOSE;
     let first = work[at];
     if first != 4 {
         return n;
     }
     let name = names::name_at(work, at + 1);
-    let bytes = name.bytes;
-    tables::put_slot(names, n * 33, &bytes);
+    tables::put_slot(names, n * 33, &name.bytes);
     n + 1
 }
 
@@ -182,12 +109,9 @@ fn note_all(work: &[u8], names: &mut [u8]) -> usize
     requires names_value { names.old ≡ zeros 792 }
     ensures { Noted (get_or work.now 55643 0) result work.now names.new }
 {
-    let total = work[IN_FLIGHT] as usize;
-    let mut i = 0;
     let mut n = 0;
-    while i < total {
+    for i in 0..usize::from(work[IN_FLIGHT.at]) {
         n = note(work, i, names, n);
-        i += 1;
     }
     n
 }

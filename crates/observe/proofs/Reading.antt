@@ -1,9 +1,11 @@
 -- The open pass, and the names to be read. Assumes nothing.
+use Rattle.std.proofs.Common.{inl, inr}
+use Rattle.std.specs.Prelude.{◌⊎◌}
+use Rattle.std.specs.Prelude.{Option, Some, None}
 use Prim.Native.Nat.{ℕ, suc, ◌+◌, ◌*◌, ◌≤◌, ◌<◌}
 use native.Mathlib.Omega.{arith}
 use mathlib.Core.Path.{◌≡◌, refl, sym, ap, ap₂, ◌∙◌, subst}
 use mathlib.Core.List.{List, [], ◌∷◌, ◌++◌, append-nil}
-use mathlib.Core.Option.{Option, none, some}
 use mathlib.Core.Bool.{Bool, true, false, not, ◌&&◌}
 use lib.ListN.{length, take, drop, get_or, length-replicate}
 use lib.Dec.{leb}
@@ -27,9 +29,9 @@ use Rattle.state.proofs.Padded.{text_name_only}
 use Rattle.state.proofs.Columns as columns
 use Rattle.state.proofs.Bridge as bridge
 use Rattle.state.proofs.Ops as ops
-use Rattle.staged.specs.Staging.{staged_of, may_stage, with_stage, staged_at, meant_kind, KindAt}
-use Rattle.staged.specs.declared.StagedKind.{StagedKind}
-use Rattle.staged.specs.declared.StagedKind.TheVariants as kind
+use Rattle.staged.specs.Staging.{staged_of, may_stage, with_stage, staged_at, Meant, StagedAt}
+use Rattle.staged.specs.declared.Staged.{Staged as Answer}
+use Rattle.staged.specs.declared.Staged.TheVariants as answer
 use Rattle.staged.proofs.Laws as staged
 use Rattle.flights.specs.Asked.{Listed, Lists}
 use Rattle.flights.proofs.Listing as listing
@@ -45,11 +47,11 @@ use Rattle.observe.proofs.Each as each
 -- ---- an insert into a table of the open pass
 
 tried_in_pass : (test : Pass → Bool) (f : Pass → Pass → Pass) (m : Machine) (o : Option Pass)
-    → (match o none: ok m some: (λ pass. when test pass then ok (match o none: m some: (λ q. set_pass (some (f pass q)) m)) else refused 5))
-    ≡ (when (match o none: true some: test) then ok (with_state (match o none: m.state some: (λ q. with_pass (some (f q q)) m.state)) m) else refused 5)
+    → (match o none: ok m some: (λ pass. when test pass then ok (match o none: m some: (λ q. set_pass (Some (f pass q)) m)) else refused 5))
+    ≡ (when (match o none: true some: test) then ok (with_state (match o none: m.state some: (λ q. with_pass (Some (f q q)) m.state)) m) else refused 5)
 unfolding match◌none:◌some:◌ when◌then◌else◌ set_pass
-tried_in_pass test f m none = refl
-tried_in_pass test f m (some p) = refl
+tried_in_pass test f m None = refl
+tried_in_pass test f m (Some p) = refl
 
 stage_is : (r : ResourceId) (v : Staged) (m : Machine) → m.limits ≡ document01 → stage r v m ≡ (when may_stage r v m.state then ok (with_state (with_stage r v m.state) m) else refused 5)
 unfolding stage in_pass within change_pass pass_changed document01
@@ -111,17 +113,17 @@ more i s b l z =
     ∙ ap keys (filter_append (to_read s) (take i (staged_of s)) (staged_at i s ∷ [])) ∙ keys_append (filter (to_read s) (take i (staged_of s))) (filter (to_read s) (staged_at i s ∷ []))
     ∙ ap (λ (x : List Text). unread_of i s ++ x) (one_key (to_read s) (staged_at i s) b z)
 
--- what a kind says
-unread_kind : StagedKind → Bool
-unread_kind kind.Present = false
-unread_kind kind.Unread = true
-unread_kind kind.Removed = false
+-- what an answer says
+unread_kind : Answer → Bool
+unread_kind (answer.Present p) = false
+unread_kind answer.Unread = true
+unread_kind answer.Removed = false
 
-kind_unread : (k : StagedKind) (v : Staged) → meant_kind k v → is_unread v ≡ unread_kind k
+kind_unread : (w : List ℕ) (k : Answer) (v : Staged) → Meant w k v → is_unread v ≡ unread_kind k
 unfolding unread_kind is_unread
-kind_unread kind.Present v e = ap is_unread e.1
-kind_unread kind.Unread v e = ap is_unread e
-kind_unread kind.Removed v e = ap is_unread e
+kind_unread w (answer.Present p) v e = ap is_unread e.1
+kind_unread w answer.Unread v e = ap is_unread e
+kind_unread w answer.Removed v e = ap is_unread e
 
 staged_below : (w : List ℕ) (i : ℕ) (s : SyncState) → Keeps s w → i < get_or w 9221 0 → i < length (staged_of s)
 staged_below w i s h l = let c = columns.counted staged.staged_column s w h in omega arith
@@ -135,18 +137,17 @@ same_names w b i n l N z = record {
   is = λ s h. subst (λ (x : List Text). Listed x n b) (sym (more i s false (staged_below w i s h l) (z s h) ∙ append-nil (unread_of i s))) (N.is s h);
 }
 
-kind_is : (w : List ℕ) (i : ℕ) (k : StagedKind) (v : Bool) → KindAt i w k → unread_kind k ≡ v → (s : SyncState) → Keeps s w → is_unread (staged_at i s).1 ≡ v
-kind_is w i k v R z s h = kind_unread k (staged_at i s).1 (R.is s h) ∙ z
+kind_is : (w : List ℕ) (i : ℕ) (k : Answer) (v : Bool) → StagedAt i w k → unread_kind k ≡ v → (s : SyncState) → Keeps s w → is_unread (staged_at i s).1 ≡ v
+kind_is w i k v R z s h = kind_unread w k (staged_at i s).1 (R.is s h) ∙ z
 
-pub noted_present : (w b : List ℕ) (i n : ℕ) (k : StagedKind) → i < get_or w 9221 0 → Noted i n w b → KindAt i w k → k ≡ kind.Present → Noted (i + 1) n w b
-unfolding unread_kind
-noted_present w b i n k l N R z =
-    same_names w b i n l N (λ s h. ap (λ (x : Bool). x && not (any (pass_reads (staged_at i s).0) (values s.in_flight))) (kind_is w i k false R (ap unread_kind z) s h))
+noted_other : (w b : List ℕ) (i n : ℕ) (k : Answer) → i < get_or w 9221 0 → Noted i n w b → StagedAt i w k → unread_kind k ≡ false → Noted (i + 1) n w b
+noted_other w b i n k l N R z =
+    same_names w b i n l N (λ s h. ap (λ (x : Bool). x && not (any (pass_reads (staged_at i s).0) (values s.in_flight))) (kind_is w i k false R z s h))
 
-pub noted_removed : (w b : List ℕ) (i n : ℕ) (k : StagedKind) → i < get_or w 9221 0 → Noted i n w b → KindAt i w k → k ≡ kind.Removed → Noted (i + 1) n w b
+pub noted_apart : (w b : List ℕ) (i n : ℕ) (k : Answer) → i < get_or w 9221 0 → Noted i n w b → StagedAt i w k → ((p : ℕ) × (k ≡ answer.Present p)) ⊎ (k ≡ answer.Removed) → Noted (i + 1) n w b
 unfolding unread_kind
-noted_removed w b i n k l N R z =
-    same_names w b i n l N (λ s h. ap (λ (x : Bool). x && not (any (pass_reads (staged_at i s).0) (values s.in_flight))) (kind_is w i k false R (ap unread_kind z) s h))
+noted_apart w b i n k l N R (inl z) = noted_other w b i n k l N R (ap unread_kind z.1)
+noted_apart w b i n k l N R (inr z) = noted_other w b i n k l N R (ap unread_kind z)
 
 -- whether a read of it is in flight
 asks_is : (w q : List ℕ) (i : ℕ) (a : Bool) → Reads (λ s. name_slot (staged_at i s).0) w q → Reads (λ s. any (same purpose_f (Purpose.PassRead (name_of q))) (values s.in_flight)) w a
@@ -156,16 +157,16 @@ asks_is w q i a N A s h =
     sym (A.is s h ∙ any_same (same purpose_f (Purpose.PassRead (name_of q))) (pass_reads (name_of q)) (bridge.pass_reads_is (name_of q)) (values s.in_flight)
     ∙ ap (λ (x : Text). any (pass_reads x) (values s.in_flight)) n)
 
-read_is : (w q : List ℕ) (i : ℕ) (k : StagedKind) (a : Bool) → KindAt i w k → k ≡ kind.Unread → Reads (λ s. name_slot (staged_at i s).0) w q
+read_is : (w q : List ℕ) (i : ℕ) (k : Answer) (a : Bool) → StagedAt i w k → k ≡ answer.Unread → Reads (λ s. name_slot (staged_at i s).0) w q
     → Reads (λ s. any (same purpose_f (Purpose.PassRead (name_of q))) (values s.in_flight)) w a → (s : SyncState) → Keeps s w → to_read s (staged_at i s) ≡ not a
 unfolding unread_kind
 read_is w q i k a R z N A s h = ap₂ (λ (x y : Bool). x && not y) (kind_is w i k true R (ap unread_kind z) s h) (asks_is w q i a N A s h)
 
-pub noted_asked : (w b q : List ℕ) (i n : ℕ) (k : StagedKind) (a : Bool) → i < get_or w 9221 0 → Noted i n w b → KindAt i w k → k ≡ kind.Unread → Reads (λ s. name_slot (staged_at i s).0) w q
+pub noted_asked : (w b q : List ℕ) (i n : ℕ) (k : Answer) (a : Bool) → i < get_or w 9221 0 → Noted i n w b → StagedAt i w k → k ≡ answer.Unread → Reads (λ s. name_slot (staged_at i s).0) w q
     → Reads (λ s. any (same purpose_f (Purpose.PassRead (name_of q))) (values s.in_flight)) w a → a ≡ true → Noted (i + 1) n w b
 noted_asked w b q i n k a l N R z M A y = same_names w b i n l N (λ s h. read_is w q i k a R z M A s h ∙ ap not y)
 
-pub noted_one : (w b b' q : List ℕ) (i n : ℕ) (k : StagedKind) (a : Bool) → HasState w → i < get_or w 9221 0 → Noted i n w b → KindAt i w k → k ≡ kind.Unread
+pub noted_one : (w b b' q : List ℕ) (i n : ℕ) (k : Answer) (a : Bool) → HasState w → i < get_or w 9221 0 → Noted i n w b → StagedAt i w k → k ≡ answer.Unread
     → Reads (λ s. name_slot (staged_at i s).0) w q → Reads (λ s. any (same purpose_f (Purpose.PassRead (name_of q))) (values s.in_flight)) w a → a ≡ false → length b' ≡ length b
     → b' ≡ take (n * 33) b ++ (q ++ drop (n * 33 + length q) b) → Noted (i + 1) (n + 1) w b'
 unfolding last_of
@@ -245,8 +246,8 @@ read_unread_is m = go m.state.pass
   where
     go : (o : Option Pass) → for_each read_for_pass (keys (filter (to_read m.state) (pass_of o).staged)) m
         ≡ (match o none: ok m some: (λ pass. for_each read_for_pass (keys (filter (to_read m.state) pass.staged)) m))
-    go none = refl
-    go (some p) = refl
+    go None = refl
+    go (Some p) = refl
 
 pub reads_unread : {w o w' o' b : List ℕ} {p q : Progress} (n : ℕ) → HasState w → Lists all_unread w n b → ((l : List Text) → Listed l n b → Does (for_each read_for_pass l) w o p q w' o')
     → Does read_unread w o p q w' o'
@@ -254,19 +255,19 @@ reads_unread n K L d = runs.is read_unread read_unread_is (each.for_state (for_e
 
 -- ---- doubt
 
-pass_none : (body : Pass → Machine → Run) (m : Machine) → m.state.pass ≡ none → in_pass body m ≡ ok m
+pass_none : (body : Pass → Machine → Run) (m : Machine) → m.state.pass ≡ None → in_pass body m ≡ ok m
 unfolding in_pass match◌none:◌some:◌
 pass_none body m e = ap (λ (o : Option Pass). match o none: ok m some: (λ pass. body pass m)) e
 
-pass_some : (body : Pass → Machine → Run) (m : Machine) (p : Pass) → m.state.pass ≡ some p → in_pass body m ≡ body p m
+pass_some : (body : Pass → Machine → Run) (m : Machine) (p : Pass) → m.state.pass ≡ Some p → in_pass body m ≡ body p m
 unfolding in_pass match◌none:◌some:◌
 pass_some body m p e = ap (λ (o : Option Pass). match o none: ok m some: (λ pass. body pass m)) e
 
-watch_none : (r : ResourceId) (m : Machine) → m.state.pass ≡ none → watch r m ≡ ok m
+watch_none : (r : ResourceId) (m : Machine) → m.state.pass ≡ None → watch r m ≡ ok m
 unfolding watch
 watch_none r m e = pass_none _ m e
 
-read_none : (m : Machine) → m.state.pass ≡ none → read_unread m ≡ ok m
+read_none : (m : Machine) → m.state.pass ≡ None → read_unread m ≡ ok m
 unfolding read_unread
 read_none m e = pass_none _ m e
 
@@ -278,8 +279,8 @@ unfolding doubt_in_pass pass_of no_pass is_some when◌then◌else◌ ◌>>=◌
 doubt_in_pass_is r m = go m.state.pass refl
   where
     go : (o : Option Pass) → m.state.pass ≡ o → marked r (is_some (pass_of m.state.pass).done) m ≡ in_pass (doubt_in_pass r) m
-    go none e = ap (λ (o : Option Pass). marked r (is_some (pass_of o).done) m) e ∙ ap (λ (x : Run). x >>= read_unread) (watch_none r m e) ∙ read_none m e ∙ sym (pass_none (doubt_in_pass r) m e)
-    go (some p) e = ap (λ (o : Option Pass). marked r (is_some (pass_of o).done) m) e ∙ sym (pass_some (doubt_in_pass r) m p e)
+    go None e = ap (λ (o : Option Pass). marked r (is_some (pass_of o).done) m) e ∙ ap (λ (x : Run). x >>= read_unread) (watch_none r m e) ∙ read_none m e ∙ sym (pass_none (doubt_in_pass r) m e)
+    go (Some p) e = ap (λ (o : Option Pass). marked r (is_some (pass_of o).done) m) e ∙ sym (pass_some (doubt_in_pass r) m p e)
 
 module _ (r : ResourceId) {w o w₁ w₂ o₂ : List ℕ} {p q s : Progress} {v : Bool} (D : Reads (λ s. is_some (pass_of s.pass).done) w v) where
   pub doubt_done : v ≡ true → Changes (stage r Staged.Unread) w p q w₁ → Does read_unread w₁ o q s w₂ o₂ → Does (in_pass (doubt_in_pass r)) w o p s w₂ o₂
@@ -307,10 +308,10 @@ doubt_is r m = each.bind_same (learn r m) (doubted r) _ (λ m. go m m.state.pass
     rest m o = match o none: (when in_flight_any (refreshes r) m then ok m else request (Purpose.Refresh r) (Request.Read r) m) some: (λ pass. doubt_in_pass r pass m)
 
     go : (m : Machine) (o : Option Pass) → m.state.pass ≡ o → doubted r m ≡ rest m m.state.pass
-    go m none e = ap (λ (o : Option Pass). when is_some o then in_pass (doubt_in_pass r) m else refresh r m) e
+    go m None e = ap (λ (o : Option Pass). when is_some o then in_pass (doubt_in_pass r) m else refresh r m) e
         ∙ ap (λ (b : Bool). when b then ok m else request (Purpose.Refresh r) (Request.Read r) m) (any_same (same purpose_f (Purpose.Refresh r)) (refreshes r) (bridge.refreshes_is r) (values m.state.in_flight))
         ∙ sym (ap (rest m) e)
-    go m (some p) e = ap (λ (o : Option Pass). when is_some o then in_pass (doubt_in_pass r) m else refresh r m) e ∙ pass_some (doubt_in_pass r) m p e ∙ sym (ap (rest m) e)
+    go m (Some p) e = ap (λ (o : Option Pass). when is_some o then in_pass (doubt_in_pass r) m else refresh r m) e ∙ pass_some (doubt_in_pass r) m p e ∙ sym (ap (rest m) e)
 
 module _ (r : ResourceId) {w o w₁ w₂ o₂ : List ℕ} {p q s : Progress} {v : Bool} (L : Changes (learn r) w p q w₁) (O : Reads (λ s. is_some s.pass) w₁ v) where
   pub doubt_open : v ≡ true → Does (in_pass (doubt_in_pass r)) w₁ o q s w₂ o₂ → Does (doubt r) w o p s w₂ o₂
@@ -322,3 +323,7 @@ module _ (r : ResourceId) {w o w₁ w₂ o₂ : List ℕ} {p q s : Progress} {v 
 pub doubt_asked : (r : ResourceId) {w w₁ : List ℕ} (o : List ℕ) {p q : Progress} {v a : Bool} → Changes (learn r) w p q w₁ → Reads (λ s. is_some s.pass) w₁ v → v ≡ false → Reads (refreshing r) w₁ a → a ≡ true → Does (doubt r) w o p q w₁ o
 doubt_asked r o L O z A y =
     runs.is (doubt r) (doubt_is r) (runs.next (L.does o) (runs.left (in_pass (doubt_in_pass r)) O z (runs.taken (request (Purpose.Refresh r) (Request.Read r)) A y runs.nothing)))
+
+-- the count byte
+pub counted_is : (w : List ℕ) (n : ℕ) → HasState w → Reads (λ s. length (staged_of s)) w n → n ≡ get_or w 9221 0
+counted_is w n K R = let c = columns.counted staged.staged_column K.state w K.keeps in let r = R.is K.state K.keeps in omega arith

@@ -10,12 +10,12 @@ ghost use Rattle.flights.specs.Asked.{Listed as ListedNames, Lists};
 ghost use Rattle.machine.specs.Contract.{Does};
 ghost use Rattle.observe.specs.Reading.{Noted, HasList, all_unread, read_for_pass};
 
-use crate::open_pass::{STAGED, stage_unread, watch};
+use crate::open_pass::{stage_unread, watch};
 use flights::NameList;
 use machine::Progress;
 use names::Name;
-use staged::StagedKind;
-use state::Kind;
+use staged::Staged;
+use state::Purpose;
 
 // Writes the name of staged entry i behind n names, if it is to be read; how many names there are then.
 fn note(work: &[u8], i: usize, names: &mut [u8], n: usize) -> usize
@@ -23,23 +23,16 @@ fn note(work: &[u8], i: usize, names: &mut [u8], n: usize) -> usize
     requires i_bound { (i < get_or work.now 9221 0) × (Noted i n work.now names.old) }
     ensures { Noted (i + 1) result work.now names.new }
 {
-    let kind = staged::staged_kind(work, i);
-    match kind {
-        StagedKind::Unread => {
+    match staged::entry(work, i) {
+        Staged::Unread => {
             let name = staged::staged_name(work, i);
-            if state::asks(work, Kind::PassRead, name) {
+            if state::asks(work, Purpose::PassRead(name)) {
                 return n;
             }
-            let bytes = name.bytes;
-            tables::put_slot(names, n * 33, &bytes);
-            return n + 1;
+            tables::put_slot(names, n * 33, &name.bytes);
+            n + 1
         }
-        StagedKind::Present => {
-            return n;
-        }
-        StagedKind::Removed => {
-            return n;
-        }
+        Staged::Present(_) | Staged::Removed => n,
     }
 }
 
@@ -48,12 +41,9 @@ fn note_all(work: &[u8], names: &mut [u8]) -> usize
     requires names_value { names.old ≡ zeros 792 }
     ensures { Noted (get_or work.now 9221 0) result work.now names.new }
 {
-    let total = work[STAGED] as usize;
-    let mut i = 0;
     let mut n = 0;
-    while i < total {
+    for i in 0..staged::staged_count(work) {
         n = note(work, i, names, n);
-        i += 1;
     }
     n
 }
@@ -74,11 +64,9 @@ fn read_each(work: &mut [u8], out: &mut [u8], p: Progress, names: &[u8], count: 
     ensures { (l : Vec Text) → ListedNames l count names.now → Does (for_each read_for_pass l) work.old out.old p result work.new out.new }
 {
     let mut q = p;
-    let mut i = 0;
-    while i < count {
+    for i in 0..count {
         let name = flights::listed_name(names, i);
-        q = machine::request_read(work, out, q, Kind::PassRead, name);
-        i += 1;
+        q = machine::request_read(work, out, q, Purpose::PassRead(name), name);
     }
     q
 }
@@ -117,8 +105,8 @@ pub fn doubt(work: &mut [u8], out: &mut [u8], p: Progress, name: Name) -> Progre
     if pass_tables::is_open(work) {
         return doubt_in_pass(work, out, q, name);
     }
-    if state::asks(work, Kind::Refresh, name) {
+    if state::asks(work, Purpose::Refresh(name)) {
         return q;
     }
-    machine::request_read(work, out, q, Kind::Refresh, name)
+    machine::request_read(work, out, q, Purpose::Refresh(name), name)
 }

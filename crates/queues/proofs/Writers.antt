@@ -1,9 +1,10 @@
 -- Expiry, and the parts of an edit as they are written into a buffer. Assumes nothing.
+use Rattle.std.specs.Prelude.{Option, Some, None}
+use Rattle.format.proofs.Options.{Some-injective, None-ne-Some}
 use Prim.Native.Nat.{ℕ, suc, ◌-◌, ◌^◌, ◌≤◌, ◌<◌, Ordering}
 use native.Mathlib.Omega.{arith}
 use mathlib.Core.Path.{◌≡◌, refl, sym, ap, ap₂, ◌∙◌, subst}
 use mathlib.Core.List.{List, [], ◌∷◌, ◌++◌}
-use mathlib.Core.Option.{Option, none, some, some-injective, none-ne-some}
 use mathlib.Core.Bool.{Bool, true, false, not, false≢true}
 use lib.Dec.{T, compare_is_eq, ltb}
 use lib.IntN.{ℤ, pos, negsuc, ◌-ℤ◌, nat_abs}
@@ -24,8 +25,6 @@ use Rattle.model.specs.Limits.{max_text}
 use Rattle.model.specs.Maps.{is_some_and, by_name, same_text}
 use Rattle.model.specs.Sync.{is_attendee}
 use Rattle.spans.specs.Compare.{order}
-use Rattle.spans.specs.declared.Order.{Order}
-use Rattle.spans.specs.declared.Order.TheVariants.{Less, Equal, Greater}
 use Rattle.state.proofs.Orders.{flipped, name_order}
 use Rattle.model.proofs.FormatsLaws.{fields_f_law, event_f_law}
 use Rattle.model.proofs.ValidParts.{create_ok, update_ok}
@@ -43,9 +42,6 @@ use Rattle.pens.specs.declared.Pen.{Pen}
 use Rattle.pens.specs.Writing.{Wrote, Stands}
 use Rattle.pens.proofs.Laws.{wrote_then}
 use Rattle.effects.specs.Sent.{pen}
-use Rattle.state.specs.Values.{number_in, bits_in}
-use Rattle.state.specs.declared.Numbered.{Numbered}
-use Rattle.state.specs.declared.Numbered.TheVariants as numbered
 use Rattle.state.specs.Contract.{Reads}
 use Rattle.state.proofs.Widths as widths
 use Rattle.queues.proofs.Notices.{create_bytes}
@@ -123,28 +119,18 @@ pub due_at : (now at x y : ℤ) {e : Expiry} {b : Bool} → e ≡ At at → b �
 unfolding is_some_and
 due_at now at x y q h e f = h ∙ ap₂ le_z e f ∙ rw q
 
-stamp_ok : (z : ℤ) → (option stamp).Ok (some z) → is_time z ≡ true
+stamp_ok : (z : ℤ) → (option stamp).Ok (Some z) → is_time z ≡ true
 unfolding option via enum ◌∣◌ stamp
 stamp_ok z k = k
 
-pub expired_never : (x : Option ℤ) {w : List ℕ} {r : Numbered} → Reads (λ s. bits_in s.now) w (number_in r) → r ≡ numbered.Nothing → Reads (λ s. is_some_and (λ now. is_some_and (λ at. le_z at now) x) s.now) w false
+pub expired_never : (x : Option ℤ) {w : List ℕ} {r : Option ℤ} → Reads (λ s. s.now) w r → r ≡ None → Reads (λ s. is_some_and (λ now. is_some_and (λ at. le_z at now) x) s.now) w false
 unfolding is_some_and
-expired_never x R e = record { is = λ s h. go s.now (sym (ap number_in e) ∙ R.is s h) }
-  where
-    go : (n : Option ℤ) → none ≡ bits_in n → false ≡ is_some_and (λ now. is_some_and (λ at. le_z at now) x) n
-    go none e = refl
-    go (some z) e = absurd (none-ne-some (of_z w64 z) e)
+expired_never x R e = record { is = λ s h. ap (is_some_and (λ now. is_some_and (λ at. le_z at now) x)) (sym e ∙ R.is s h) }
 
-pub expired_by : (x : Option ℤ) (bits : ℕ) (t y : ℤ) {w : List ℕ} {r : Numbered} {v : Bool} → Reads (λ s. bits_in s.now) w (number_in r) → r ≡ numbered.Is bits → t ≡ to_z w64 bits → y ≡ t → v ≡ is_some_and (λ at. le_z at y) x
+pub expired_by : (x : Option ℤ) (now y : ℤ) {w : List ℕ} {r : Option ℤ} {v : Bool} → Reads (λ s. s.now) w r → r ≡ Some now → y ≡ now → v ≡ is_some_and (λ at. le_z at y) x
     → Reads (λ s. is_some_and (λ now. is_some_and (λ at. le_z at now) x) s.now) w v
 unfolding is_some_and
-expired_by x bits t y {v = v} R e q f k = record { is = λ s h. go s.now h.fits.now (sym (ap number_in e) ∙ R.is s h) }
-  where
-    go : (n : Option ℤ) → (option stamp).Ok n → some bits ≡ bits_in n → v ≡ is_some_and (λ now. is_some_and (λ at. le_z at now) x) n
-    go none c e = absurd (none-ne-some bits (sym e))
-    go (some z) c e =
-        let b : t ≡ z = q ∙ ap (to_z w64) (some-injective bits (of_z w64 z) e) ∙ to_z-of_z (time_fits z (stamp_ok z c)) in
-        k ∙ ap (λ (u : ℤ). is_some_and (λ at. le_z at u) x) (f ∙ b)
+expired_by x now y R e q k = record { is = λ s h. k ∙ ap (λ (z : ℤ). is_some_and (λ at. le_z at z) x) q ∙ ap (is_some_and (λ now. is_some_and (λ at. le_z at now) x)) (sym e ∙ R.is s h) }
 
 -- ---- written bytes
 
@@ -166,8 +152,8 @@ unfolding skips value_at
 read_stands {A} {f} F d s p k = go (f.dec (drop p s)) refl k
   where
     go : (x : Got A) → f.dec (drop p s) ≡ x → (stepped s x).ok ≡ true → StandsAt f (value_of d x) s p
-    go none e k = absurd (false≢true k)
-    go (some r) e k = let i = F.reads (drop p s) r e in record { ok = i.1; rest = r.1; is = i.0 }
+    go None e k = absurd (false≢true k)
+    go (Some r) e k = let i = F.reads (drop p s) r e in record { ok = i.1; rest = r.1; is = i.0 }
 
 pub fields_there : (s : List ℕ) (p : ℕ) → fields_f.Ok (fields_at s p) → StandsAt fields_f (fields_at s p) s p
 fields_there s p k = read_stands fields_f_law no_fields s p (fields_stand s p (skips fields_f s (record { at = p; ok = true })) refl k).0
@@ -208,11 +194,11 @@ role_attendee {b} {b₁} {b'} {t} {p} {p₁} {q} s {role} address l k e d a W Y 
     let x : role_f.enc (meant_role s role) ≡ 1 ∷ (length t ∷ t) = ap (λ (y : Role). role_f.enc (meant_role s y)) e ∙ attendee_bytes (text_in s address) ∙ ap (λ (y : List ℕ). 1 ∷ (length y ∷ y)) (sym d) in
     filled 34 a (subst (λ (y : List ℕ). Wrote b b' p q y) (sym x) (wrote_then W Y)) ((widths.role_within).bytes (meant_role s role) k) l
 
-never_bytes : (option stamp).enc none ≡ 0 ∷ []
+never_bytes : (option stamp).enc None ≡ 0 ∷ []
 unfolding option via enum ◌∣◌ nothing
 never_bytes = refl
 
-time_bytes : (z : ℤ) → (option stamp).enc (some z) ≡ 1 ∷ big_endian 8 (of_z w64 z)
+time_bytes : (z : ℤ) → (option stamp).enc (Some z) ≡ 1 ∷ big_endian 8 (of_z w64 z)
 unfolding option stamp via enum ◌∣◌
 time_bytes z = refl
 
@@ -254,9 +240,6 @@ module _ (s : List ℕ) {b b' : List ℕ} {p q : Pen} (o : Operation) (l : 1469 
   pub operation_delete : o ≡ Delete → Wrote b b' p q (2 ∷ []) → Filled (operation_f.enc (meant_operation s o)) b' q.at
   operation_delete e W = operation_filled (2 ∷ []) (ap (λ (y : Operation). operation_f.enc (meant_operation s y)) e ∙ delete_bytes) W
 
-pub bits_told : (z : ℤ) {n : ℕ} → SFits w64 z → n ≡ of_z w64 (to_z w64 (of_z w64 z)) → n ≡ of_z w64 z
-bits_told z F e = e ∙ ap (of_z w64) (to_z-of_z F)
-
 -- ---- roles and bytes compared
 
 pub owner_yes : {role : Role} → role ≡ Owner → (s : List ℕ) → true ≡ not (is_attendee (meant_role s role))
@@ -266,20 +249,6 @@ owner_yes e s = rw e
 pub owner_no : {role : Role} (a : TextPart) → role ≡ Attendee a → (s : List ℕ) → false ≡ not (is_attendee (meant_role s role))
 unfolding is_attendee
 owner_no a e s = rw e
-
-abbrev is_equal : Order → Bool
-is_equal Less = false
-is_equal Equal = true
-is_equal Greater = false
-
-equal_is : (x : Ordering) → is_equal (flipped x) ≡ compare_is_eq x
-equal_is Ordering.lt = refl
-equal_is Ordering.eq = refl
-equal_is Ordering.gt = refl
-
-pub same_of : (a b : List ℕ) {o x : Order} → o ≡ order b a → o ≡ x → is_equal x ≡ same_text a b
-unfolding same_text
-same_of a b e q = ap is_equal (sym q ∙ e ∙ name_order b a) ∙ equal_is (by_name a b)
 
 -- ---- the first bytes of a buffer
 

@@ -18,8 +18,6 @@ use crate::places::{fields_at, fields_end, fields_place, part, role_at, tag_at};
 use crate::writing::{put_role, start};
 use frame::{Edit, Operation, Role};
 use names::Name;
-use spans::Order;
-use tables::Place;
 
 // What becomes of an edit that follows another: it stays apart, its operation is folded into the other's, or the two cancel each other.
 #[derive(Clone, Copy)]
@@ -32,18 +30,7 @@ pub enum Folded {
 fn same_bytes(a: &[u8], b: &[u8]) -> bool
     ensures { result ≡ same_text a.now b.now }
 {
-    let o = spans::compare(b, a);
-    match o {
-        Order::Equal => {
-            return true;
-        }
-        Order::Less => {
-            return false;
-        }
-        Order::Greater => {
-            return false;
-        }
-    }
+    a == b
 }
 
 // An update behind one whose fields stand at `at`.
@@ -205,13 +192,8 @@ pub fn coalesced_with(work: &[u8], name: Name, frame: &[u8], edit: Edit, buf: &m
     if n < 2 {
         return Folded::Apart;
     }
-    let place = waiting::find_entry(work, name, n - 1);
-    match place {
-        Place::Found(at) => {
-            return coalesce(work, at, frame, edit, buf);
-        }
-        Place::Missing(_at) => {
-            return Folded::Apart;
-        }
+    match waiting::find_entry(work, name, n - 1) {
+        Some(at) => coalesce(work, at, frame, edit, buf),
+        None => Folded::Apart,
     }
 }

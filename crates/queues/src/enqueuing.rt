@@ -169,12 +169,10 @@ fn target(work: &[u8], frame: &[u8], edit: Edit) -> Name
     if is_create(what) {
         return name;
     }
-    let to = state::alias(work, name);
-    if to.found {
-        let other = to.name;
-        return other;
+    match state::alias(work, name) {
+        None => name,
+        Some(to) => to,
     }
-    name
 }
 
 // SyncState::enqueue

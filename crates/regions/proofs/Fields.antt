@@ -1,9 +1,9 @@
 -- A field's bytes, by the place after the value that is read at their front. Assumes nothing.
+use Rattle.std.specs.Prelude.{Some, None}
 use Prim.Native.Nat.{ℕ, zero, suc, ◌+◌, ◌-◌, ◌≤◌, ◌<◌}
 use native.Mathlib.Omega.{arith}
 use mathlib.Core.Path.{◌≡◌, refl, sym, ap, ◌∙◌}
 use mathlib.Core.List.{List, ◌++◌}
-use mathlib.Core.Option.{none, some}
 use mathlib.Core.Bool.{true}
 use lib.Dec.{lit<}
 use lib.ListN.{length, drop, length-append}
@@ -34,8 +34,8 @@ unfolding skips filled
 filled_by {A} {f} F s c e = rw e (go (f.dec s) refl)
   where
     go : (x : Got A) → f.dec s ≡ x → both (stepped s x).ok (all_zero (drop (stepped s x).at s)) ≡ zeros_left x
-    go none q = refl
-    go (some r) q = ap all_zero (rest_at F s 0 r q)
+    go None q = refl
+    go (Some r) q = ap all_zero (rest_at F s 0 r q)
 
 pub value_le : (v : Value) (s : List ℕ) (c : Cursor) → c ≡ skips_value v s → c.at ≤ length s
 value_le value.Name s c e = rw e (skips_le resource_id_law s start)
@@ -67,8 +67,8 @@ module _ {A : Type 0} {f : Format A} (F : Lawful f) where
   field_yes n s l h = go (f.dec s) refl h
     where
       go : (x : Got A) → f.dec s ≡ x → zeros_left x ≡ true → FieldIn n f s
-      go none q h = absurd (tables.false_true h)
-      go (some r) q h =
+      go None q h = absurd (tables.false_true h)
+      go (Some r) q h =
           let i = F.reads s r q in
           let z : r.1 ≡ zeros (length r.1) = tables.all_zero_is r.1 h in
           let k : length s ≡ length (f.enc r.0) + length r.1 = ap length i.0 ∙ length-append (f.enc r.0) r.1 in

@@ -1,7 +1,6 @@
 -- What the bytes of each region of a state are: those of a value that fits. Assumes nothing.
 use Prim.Native.Nat.{ℕ, Ordering}
-use Rattle.std.specs.Prelude.{◌≡◌, true, List}
-use Rattle.std.proofs.Math.Option.{Option}
+use Rattle.std.specs.Prelude.{◌≡◌, true, List, Option}
 use Rattle.format.specs.Format.{Format, option, stamp, bool}
 use Rattle.tables.specs.Table.{WellFormed, slots_of}
 use Rattle.lent.specs.Lent.{part}

@@ -1,6 +1,5 @@
 -- The tests of a field's bytes and of a slot's: each is a function of the bytes, whatever they are. Assumes nothing.
-use Rattle.std.specs.Prelude.{ℕ, List, [], ◌∷◌, Bool, true, false, get_or, eqb}
-use Rattle.std.proofs.Math.Option.{none, some}
+use Rattle.std.specs.Prelude.{ℕ, List, [], ◌∷◌, Bool, true, false, get_or, eqb, Some, None}
 use Rattle.format.specs.Format.{Got, Format, option, stamp, bool}
 use Rattle.spans.specs.Bytes.{both, all_zero}
 use Rattle.tables.specs.Table.{Table}
@@ -15,8 +14,8 @@ use Rattle.regions.specs.declared.table.Slot.{Slot}
 use Rattle.regions.specs.declared.table.Slot.TheVariants as slot
 
 abbrev pub zeros_left : {A : Type 0} → Got A → Bool
-zeros_left none = false
-zeros_left (some r) = all_zero r.1
+zeros_left None = false
+zeros_left (Some r) = all_zero r.1
 
 -- a value of the format, and zeros behind it
 unfoldable pub filled : {A : Type 0} → Format A → List ℕ → Bool

@@ -101,7 +101,7 @@ fn unit_value(sheet: Sheet, out: &mut [u8], v: Verdict, o: &[u8], t: &[u8]) -> S
 {
     let pen = sheet.pen;
     let count = sheet.count;
-    if comparison::is_ours(v) {
+    if v == Verdict::Ours {
         let p = pen.part(out, o);
         let n = pens::more(count);
         return Sheet { pen: p, count: n };
@@ -132,7 +132,7 @@ fn unit_conflict(
 {
     let pen = sheet.pen;
     let count = sheet.count;
-    if !comparison::is_conflict(v) {
+    if v != Verdict::Conflict {
         return sheet;
     }
     let p = pen.byte(out, k).byte(out, 0);
@@ -148,7 +148,7 @@ fn unit_refused(sheet: Sheet, out: &mut [u8], v: Verdict, k: u8) -> Sheet
 {
     let pen = sheet.pen;
     let count = sheet.count;
-    if !comparison::is_refused(v) {
+    if v != Verdict::Refused {
         return sheet;
     }
     let p = pen.byte(out, k).byte(out, 0);

@@ -13,7 +13,7 @@ use Rattle.format.proofs.FormatLaws.{pair_law, option_law, stamp_law, bool_law, 
 use Rattle.format.proofs.SizeLaws.{Within, pair_within, list_within, bool_within}
 use Rattle.spans.specs.Bytes.{zeros, both}
 use Rattle.spans.specs.Compare.{order}
-use Rattle.spans.specs.declared.Order.TheVariants.{Greater}
+use Rattle.std.specs.declared.cmp.Ordering.TheVariants.{Greater}
 use Rattle.tables.specs.Table.{Table, flat, Sized, enc_table, slots_of, Holds, text}
 use Rattle.tables.proofs.Laws as tables
 use Rattle.model.specs.Seam.{ResourceId}

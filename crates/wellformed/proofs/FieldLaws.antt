@@ -1,9 +1,10 @@
 -- Where reading a value in its width ends. Assumes nothing.
+use Rattle.std.specs.Prelude.{Some, None}
+use Rattle.format.proofs.Options.{None-ne-Some, Some-injective}
 use Prim.Native.Nat.{ℕ, ◌+◌, ◌-◌, ◌≤◌, ◌<◌}
 use native.Mathlib.Omega.{arith}
 use mathlib.Core.Path.{◌≡◌, refl, sym, ap, ◌∙◌, subst}
 use mathlib.Core.List.{List, ◌++◌, append_assoc}
-use mathlib.Core.Option.{none, some, none-ne-some, some-injective}
 use mathlib.Core.Bool.{Bool, true, false, cond, not, ◌&&◌}
 use lib.ListN.{length, take, drop, length-append, length-drop, length-replicate, take-append-drop}
 use lib.Seq.{take_at, drop_at, length-take-le}
@@ -27,12 +28,12 @@ wide w f = record {
   enc = field w f;
   dec = λ s. and_then (f.dec s) (λ a t.
       let used = length s - length t in
-      cond (leb w (length s) && (leb used w && all_zero (take (w - used) t))) (some (a, drop (w - used) t)) none);
+      cond (leb w (length s) && (leb used w && all_zero (take (w - used) t))) (Some (a, drop (w - used) t)) None);
 }
 
-cond_inv : {B : Type 0} (b : Bool) (x r : B) → cond b (some x) none ≡ some r → (b ≡ true) × (x ≡ r)
-cond_inv true x r e = (refl, some-injective x r e)
-cond_inv false x r e = absurd (none-ne-some r e)
+cond_inv : {B : Type 0} (b : Bool) (x r : B) → cond b (Some x) None ≡ Some r → (b ≡ true) × (x ≡ r)
+cond_inv true x r e = (refl, Some-injective x r e)
+cond_inv false x r e = absurd (None-ne-Some r e)
 
 leb_same : (a b m n : ℕ) → (a ≤ b → m ≤ n) → (m ≤ n → a ≤ b) → leb a b ≡ leb m n
 leb_same a b m n p q = go (leb a b) (leb m n) refl refl
@@ -47,13 +48,13 @@ module _ {A : Type 0} {f : Format A} (F : Lawful f) (w : ℕ) where
   abbrev fits : ℕ → List ℕ → Bool
   fits n t = leb w n && (leb (n - length t) w && all_zero (take (w - (n - length t)) t))
 
-  wide_writes : (a : A) → f.Ok a × (length (f.enc a) ≤ w) → (t : List ℕ) → (wide w f).dec (field w f a ++ t) ≡ some (a, t)
+  wide_writes : (a : A) → f.Ok a × (length (f.enc a) ≤ w) → (t : List ℕ) → (wide w f).dec (field w f a ++ t) ≡ Some (a, t)
   unfolding wide padded
   wide_writes a ok t =
       let b : List ℕ = f.enc a in
       let z : List ℕ = zeros (w - length b) in
       let s : List ℕ = (b ++ z) ++ t in
-      let d : f.dec s ≡ some (a, z ++ t) = ap f.dec (append_assoc b z t) ∙ F.writes a ok.0 (z ++ t) in
+      let d : f.dec s ≡ Some (a, z ++ t) = ap f.dec (append_assoc b z t) ∙ F.writes a ok.0 (z ++ t) in
       let lz : length z ≡ w - length b = length-replicate (w - length b) 0 in
       let l1 : length s ≡ length (b ++ z) + length t = length-append (b ++ z) t in
       let l2 : length (b ++ z) ≡ length b + length z = length-append b z in
@@ -66,7 +67,7 @@ module _ {A : Type 0} {f : Format A} (F : Lawful f) (w : ℕ) where
       let c5 : all_zero z ≡ true = zeros_all_zero (w - length b) in
       rw (d, u, c1, c2, c3, c5, c4) refl
 
-  wide_reads : (s : List ℕ) (r : A × List ℕ) → (wide w f).dec s ≡ some r → (s ≡ field w f r.0 ++ r.1) × (f.Ok r.0 × (length (f.enc r.0) ≤ w))
+  wide_reads : (s : List ℕ) (r : A × List ℕ) → (wide w f).dec s ≡ Some r → (s ≡ field w f r.0 ++ r.1) × (f.Ok r.0 × (length (f.enc r.0) ≤ w))
   unfolding wide padded
   wide_reads s r e =
       let i = then_inv (f.dec s) _ r e in
@@ -91,15 +92,15 @@ module _ {A : Type 0} {f : Format A} (F : Lawful f) (w : ℕ) where
   unfolding in-width padded
   same_got s = go ((wide w f).dec s) refl
     where
-      no : (y : Got A) → (wide w f).dec s ≡ none → (in-width w f).dec s ≡ y → none ≡ y
-      no none p q = refl
-      no (some r) p q =
+      no : (y : Got A) → (wide w f).dec s ≡ None → (in-width w f).dec s ≡ y → None ≡ y
+      no None p q = refl
+      no (Some r) p q =
           let k = (padded_law F w).reads s r q in
-          absurd (none-ne-some r (sym p ∙ ap (wide w f).dec k.0 ∙ wide_writes r.0 k.1 r.1))
+          absurd (None-ne-Some r (sym p ∙ ap (wide w f).dec k.0 ∙ wide_writes r.0 k.1 r.1))
 
       go : (x : Got A) → (wide w f).dec s ≡ x → x ≡ (in-width w f).dec s
-      go none p = no ((in-width w f).dec s) p refl
-      go (some r) p =
+      go None p = no ((in-width w f).dec s) p refl
+      go (Some r) p =
           let k = wide_reads s r p in
           sym (ap (in-width w f).dec k.0 ∙ (padded_law F w).writes r.0 k.1 r.1)
 
@@ -127,11 +128,11 @@ module _ {A : Type 0} {f : Format A} (F : Lawful f) (w : ℕ) where
   unfolding skips wide filled
   skips_wide h s c = go c.ok
     where
-      here : (r : A × List ℕ) → f.dec (drop c.at s) ≡ some r → length r.1 ≤ length (drop c.at s)
+      here : (r : A × List ℕ) → f.dec (drop c.at s) ≡ Some r → length r.1 ≤ length (drop c.at s)
       here r e = let l = ap length (F.reads (drop c.at s) r e).0 ∙ length-append (f.enc r.0) r.1 in omega arith
 
       go3 : (r : A × List ℕ) (b : Bool) → length r.1 ≤ length (drop c.at s) → fits (length (drop c.at s)) r.1 ≡ b
-          → stepped s (cond b (some (r.0, drop (w - (length (drop c.at s) - length r.1)) r.1)) none) ≡ ended b (c.at + w)
+          → stepped s (cond b (Some (r.0, drop (w - (length (drop c.at s) - length r.1)) r.1)) None) ≡ ended b (c.at + w)
       go3 r false k e = refl
       go3 r true k e =
           let q1 = and_inv (leb w (length (drop c.at s))) _ e in
@@ -144,10 +145,10 @@ module _ {A : Type 0} {f : Format A} (F : Lawful f) (w : ℕ) where
           ap (λ (x : ℕ). record { at = x; ok = true }) (omega arith)
 
       go2 : (x : Got A) → f.dec (drop c.at s) ≡ x
-          → stepped s (and_then x (λ a t. cond (fits (length (drop c.at s)) t) (some (a, drop (w - (length (drop c.at s) - length t)) t)) none))
+          → stepped s (and_then x (λ a t. cond (fits (length (drop c.at s)) t) (Some (a, drop (w - (length (drop c.at s) - length t)) t)) None))
           ≡ ended ((stepped s x).ok && (leb (c.at + w) (length s) && (leb (stepped s x).at (c.at + w) && all_zero (take (c.at + w - (stepped s x).at) (drop (stepped s x).at s))))) (c.at + w)
-      go2 none e = refl
-      go2 (some r) e =
+      go2 None e = refl
+      go2 (Some r) e =
           go3 r (fits (length (drop c.at s)) r.1) (here r e) refl
           ∙ ap (λ (b : Bool). ended b (c.at + w)) (fits_at s r.1 c.at h (here r e) (rest_at F s c.at r e))
 

@@ -1,9 +1,9 @@
 -- What the tests of slots across tables say of a state: its numbers in flight, and the requests for its queues. Assumes nothing.
+use Rattle.std.specs.Prelude.{Some, None}
 use Prim.Native.Nat.{ℕ, suc, ◌+◌, ◌-◌, Ordering}
 use native.Mathlib.Omega.{arith}
 use mathlib.Core.Path.{◌≡◌, refl, sym, ap, ap₂, ◌∙◌}
 use mathlib.Core.List.{List, [], ◌∷◌, ◌++◌}
-use mathlib.Core.Option.{none, some}
 use mathlib.Core.Bool.{Bool, true, false, ◌||◌}
 use lib.ListN.{length, take, drop, get_or}
 use lib.Seq.{take_all, drop-drop, get_or-append-add}
@@ -11,7 +11,7 @@ use lib.Dec.{ltb, eqb, compare_is_eq}
 use Rattle.format.specs.Format.{All, via, enum, ◌∣◌, nothing, text as text-format, number}
 use Rattle.spans.specs.Bytes.{zeros, both}
 use Rattle.spans.specs.Compare.{order}
-use Rattle.spans.specs.declared.Order.TheVariants.{Less}
+use Rattle.std.specs.declared.cmp.Ordering.TheVariants.{Less}
 use Rattle.numbers.specs.Big.{from_be}
 use Rattle.tables.specs.Table.{Table, text, place, at_place, is_equal}
 use Rattle.tables.proofs.Laws as tables
@@ -99,7 +99,7 @@ found_is key ((r, p ∷ q) ∷ m) a at = go (by_name (text key) r) refl (found_i
   where
     go : (o : Ordering) → by_name (text key) r ≡ o → ((at : ℕ) → is_found (place 5940 key (edit_slots document01 m) at) ≡ is_some (get by_name (text key) m))
         → is_found (at_place (order (text (pending_slot document01 r p)) (text key)) at (place 5940 key (map (pending_slot document01 r) q ++ edit_slots document01 m) (at + 5940)))
-        ≡ is_some (by o none (some (p ∷ q)) (get by_name (text key) m))
+        ≡ is_some (by o None (Some (p ∷ q)) (get by_name (text key) m))
     go Ordering.lt e f = rw (slot_text r p, name_order r (text key), e)
     go Ordering.eq e f = rw (slot_text r p, name_order r (text key), e)
     go Ordering.gt e f = rw (slot_text r p, name_order r (text key), e) (past key r q (edit_slots document01 m) _ (at + 5940) (name_order r (text key) ∙ ap flipped e) f)

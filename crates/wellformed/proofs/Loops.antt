@@ -11,10 +11,10 @@ use lib.Dec.{ltb, eqb}
 use borrow.Author.Tests.{ne_eqb}
 use Rattle.spans.specs.Bytes.{both}
 use Rattle.spans.specs.Compare.{order}
-use Rattle.spans.specs.declared.Order.{Order}
+use Rattle.std.specs.declared.cmp.Ordering.{Ordering}
 use Rattle.numbers.specs.Big.{from_be}
 use Rattle.tables.specs.Table.{Table, chunks, slots_of, text, place, is_equal}
-use Rattle.tables.specs.declared.Place.{Place}
+use Rattle.std.specs.declared.result.Result.{Result}
 use Rattle.tables.proofs.Laws as tables
 use Rattle.regions.specs.Tests.{every_slot}
 use Rattle.wellformed.specs.Tests.{is_below, is_edit, key_in, is_found, is_queued, is_for, one, count_slots, is_asked, agree}
@@ -67,7 +67,7 @@ pub queued_other : (t : Table) (r : List ℕ) (at : ℕ) (b : Bool) → b ≡ is
 unfolding is_queued
 queued_other t r at b p q = rw (sym p ∙ q)
 
-pub queued_is : (t : Table) (r : List ℕ) (at : ℕ) (b : Bool) (found want : Place) → b ≡ is_edit (take 43 (drop at r)) → b ≡ true
+pub queued_is : (t : Table) (r : List ℕ) (at : ℕ) (b : Bool) (found want : Result ℕ ℕ) → b ≡ is_edit (take 43 (drop at r)) → b ≡ true
     → found ≡ place 5940 (take (at + 43 - (at + 10)) (drop (at + 10) r)) t 1 → found ≡ want → is_found want ≡ is_queued t (take 43 (drop at r))
 unfolding is_queued
 queued_is t r at b found want p q f e =
@@ -79,7 +79,7 @@ pub for_other : (key r : List ℕ) (at : ℕ) (b : Bool) → b ≡ is_edit (take
 unfolding is_for
 for_other key r at b p q = rw (sym p ∙ q)
 
-pub for_is : (key r : List ℕ) (at : ℕ) (b : Bool) (o w : Order) → b ≡ is_edit (take 43 (drop at r)) → b ≡ true
+pub for_is : (key r : List ℕ) (at : ℕ) (b : Bool) (o w : Ordering) → b ≡ is_edit (take 43 (drop at r)) → b ≡ true
     → o ≡ order (text (take (at + 43 - (at + 10)) (drop (at + 10) r))) (text key) → o ≡ w → is_equal w ≡ is_for key (take 43 (drop at r))
 unfolding is_for
 for_is key r at b o w p q f e =

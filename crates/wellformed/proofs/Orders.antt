@@ -8,13 +8,13 @@ use mathlib.Core.Bool.{Bool, true}
 use lib.ListN.{take, drop}
 use Rattle.spans.specs.Bytes.{both}
 use Rattle.spans.specs.Compare.{order}
-use Rattle.spans.specs.declared.Order.{Order}
+use Rattle.std.specs.declared.cmp.Ordering.{Ordering}
 use Rattle.tables.specs.Table.{chunks, text}
 use Rattle.tables.proofs.Laws as tables
 use Rattle.wellformed.specs.Entries.{not_greater, ordered_from, ordered}
 
 -- how the slots at `at` and behind it compare, by the parts of them that were compared
-pub pair_is : (r : List ℕ) (stride at : ℕ) {o w : Order} → o ≡ order (text (take (at + stride - at) (drop at r))) (text (take (at + stride + stride - (at + stride)) (drop (at + stride) r)))
+pub pair_is : (r : List ℕ) (stride at : ℕ) {o w : Ordering} → o ≡ order (text (take (at + stride - at) (drop at r))) (text (take (at + stride + stride - (at + stride)) (drop (at + stride) r)))
     → o ≡ w → not_greater w ≡ not_greater (order (text (take stride (drop at r))) (text (take stride (drop (at + stride) r))))
 pair_is r stride at p q = ap not_greater (sym (tables.seen2 r stride at (sym p ∙ q)))
 

@@ -1,11 +1,11 @@
 -- The whole buffer: a state that fits, with the rules across its tables, is a well-formed one. Assumes nothing.
+use Rattle.std.specs.Prelude.{Some}
 use Prim.Native.Nat.{ℕ, ◌+◌, ◌-◌, ◌*◌, ◌≤◌, ◌<◌}
 use native.Mathlib.Nat.{mul-le-mul_right}
 use native.Mathlib.Omega.{arith}
 use mathlib.Core.Path.{◌≡◌, sym, ap, ap₂, ◌∙◌, subst}
 use mathlib.Core.List.{List}
 use mathlib.Core.Bool.{Bool, true}
-use mathlib.Core.Option.{some}
 use lib.ListN.{length, take, drop, get_or}
 use lib.Dec.{ltb, eqb}
 use Rattle.spans.specs.Bytes.{both}
@@ -142,10 +142,10 @@ waiting_of b I = whole.edits_part I.state b (keeps_of I)
 
 -- ---- which bytes are read as a state
 
-pub read_of : {b : List ℕ} (I : IsState b) → read_state document01 b ≡ some I.state
+pub read_of : {b : List ℕ} (I : IsState b) → read_state document01 b ≡ Some I.state
 read_of {b} I = (states_exact document01 b I.state).1 (I.well, I.bytes ∙ layout_is document01 I.state (fits_of document01 I.state I.well))
 
-pub is_read : {b : List ℕ} {s : SyncState} → read_state document01 b ≡ some s → IsState b
+pub is_read : {b : List ℕ} {s : SyncState} → read_state document01 b ≡ Some s → IsState b
 is_read {b} {s} e =
     let h = (states_exact document01 b s).0 e in
     record { state = s; well = h.0; bytes = h.1 ∙ sym (layout_is document01 s (fits_of document01 s h.0)) }

@@ -1,11 +1,10 @@
 -- The region of the waiting entries: a count byte and slots, each the fields of one entry in their widths. Assumes nothing.
-use Rattle.std.specs.Prelude.{ℕ, ◌≡◌, List, [], ◌∷◌, Bool, true, false}
-use Rattle.std.proofs.Math.Option.{Option}
+use Rattle.std.specs.Prelude.{ℕ, ◌≡◌, List, [], ◌∷◌, Bool, true, false, Option}
 use Rattle.format.specs.Format.{Format, ◌⊗◌, option, list, padded, stamp, bool}
 use Rattle.spans.specs.Bytes.{both}
 use Rattle.spans.specs.Compare.{order}
-use Rattle.spans.specs.declared.Order.{Order}
-use Rattle.spans.specs.declared.Order.TheVariants.{Less, Equal, Greater}
+use Rattle.std.specs.declared.cmp.Ordering.{Ordering}
+use Rattle.std.specs.declared.cmp.Ordering.TheVariants.{Less, Equal, Greater}
 use Rattle.tables.specs.Table.{Table, text}
 use Rattle.model.specs.Seam.{ResourceId}
 use Rattle.model.specs.Parts.{Role, Conflict, Refused}
@@ -35,7 +34,7 @@ entry_f =
 unfoldable pub entries_f : Format (List Entry)
 entries_f = padded 35641 (list 6 entry_f)
 
-abbrev pub not_greater : Order → Bool
+abbrev pub not_greater : Ordering → Bool
 not_greater Less = true
 not_greater Equal = true
 not_greater Greater = false

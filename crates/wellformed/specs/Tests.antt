@@ -4,8 +4,8 @@ use Rattle.spans.specs.Bytes.{both}
 use Rattle.spans.specs.Compare.{order}
 use Rattle.numbers.specs.Big.{from_be}
 use Rattle.tables.specs.Table.{Table, text, place, either, is_equal}
-use Rattle.tables.specs.declared.Place.{Place}
-use Rattle.tables.specs.declared.Place.TheVariants.{Found, Missing}
+use Rattle.std.specs.declared.result.Result.{Result}
+use Rattle.std.specs.declared.result.Result.TheVariants.{Ok, Err}
 use Rattle.regions.specs.Tests.{every_slot}
 
 -- the number of an in_flight slot is below n
@@ -20,9 +20,9 @@ is_edit s = either (eqb (get_or s 9 0) 2) (eqb (get_or s 9 0) 3)
 abbrev pub key_in : List ℕ → List ℕ
 key_in s = take 33 (drop 10 s)
 
-abbrev pub is_found : Place → Bool
-is_found (Found at) = true
-is_found (Missing at) = false
+abbrev pub is_found : Result ℕ ℕ → Bool
+is_found (Ok at) = true
+is_found (Err at) = false
 
 -- if it is for an edit, entries of its resource wait
 unfoldable pub is_queued : Table → List ℕ → Bool

@@ -5,8 +5,7 @@ ghost use Rattle.regions.specs.Tests.{every_slot};
 ghost use Rattle.wellformed.specs.Tests.{is_below, is_edit, is_queued, is_for, one, count_slots, is_asked, agree};
 
 use crate::table::ENTRY;
-use spans::Order;
-use tables::Place;
+use std::cmp::Ordering;
 
 const FLIGHT: usize = 43;
 
@@ -67,10 +66,10 @@ fn is_queued(flights: &[u8], at: usize, entries: &[u8]) -> bool
     let to = at + FLIGHT;
     let p = tables::find(entries, ENTRY, &flights[from..to]);
     match p {
-        Place::Found(_) => {
+        Ok(_) => {
             return true;
         }
-        Place::Missing(_) => {
+        Err(_) => {
             return false;
         }
     }
@@ -106,13 +105,13 @@ fn is_for(flights: &[u8], at: usize, key: &[u8]) -> bool
     let to = at + FLIGHT;
     let o = tables::key_order(&flights[from..to], key);
     match o {
-        Order::Less => {
+        Ordering::Less => {
             return false;
         }
-        Order::Equal => {
+        Ordering::Equal => {
             return true;
         }
-        Order::Greater => {
+        Ordering::Greater => {
             return false;
         }
     }

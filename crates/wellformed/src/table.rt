@@ -8,7 +8,7 @@ ghost use Rattle.wellformed.specs.Entries.{entry_f, entries_f, not_greater, orde
 
 use crate::slot::{entry, filled};
 use frame::Cursor;
-use spans::Order;
+use std::cmp::Ordering;
 
 const MAX_WAITING: u8 = 6;
 
@@ -48,13 +48,13 @@ fn in_order(region: &[u8], at: usize, stride: usize) -> bool
     let end = mid + stride;
     let o = tables::key_order(&region[at..mid], &region[mid..end]);
     match o {
-        Order::Less => {
+        Ordering::Less => {
             return true;
         }
-        Order::Equal => {
+        Ordering::Equal => {
             return true;
         }
-        Order::Greater => {
+        Ordering::Greater => {
             return false;
         }
     }

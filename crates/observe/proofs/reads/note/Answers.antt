@@ -3,7 +3,7 @@ use native.Mathlib.Omega.{arith}
 use Rattle.observe.proofs.reads.note.Goals as goal
 
 pub returns-then-asks : goal.returns-then-asks
-returns-then-asks c = reading.noted_asked c.args.work.now c.args.names.now c.staged_name-name.result.bytes c.args.i c.args.n _ _ c.requires.i_bound.0 c.requires.i_bound.1 c.staged_kind-kind.ensures c.in-Unread.is c.staged_name-name.ensures.reads c.asks.ensures c.if-asks.true
+returns-then-asks c = reading.noted_asked c.args.work.now c.args.names.now c.staged_name-name.result.bytes c.args.i c.args.n _ _ c.requires.i_bound.0 c.requires.i_bound.1 c.entry.ensures c.in-Unread.is c.staged_name-name.ensures.reads c.asks.ensures c.if-asks.true
 
 pub overflow_mul-n : goal.overflow_mul-n
 overflow_mul-n c =
@@ -20,11 +20,8 @@ overflow_add-result c =
     let h = reading.name_room c.args.work.now c.args.names.now c.staged_name-name.result.bytes c.args.i c.args.n c.requires.has_state c.requires.i_bound.0 c.requires.i_bound.1 c.staged_name-name.ensures.named in
     omega arith
 
-pub returns-in-Unread : goal.returns-in-Unread
-returns-in-Unread c = reading.noted_one c.args.work.now c.args.names.now c.put_slot.new.region c.staged_name-name.result.bytes c.args.i c.args.n _ _ c.requires.has_state c.requires.i_bound.0 c.requires.i_bound.1 c.staged_kind-kind.ensures c.in-Unread.is c.staged_name-name.ensures.reads c.asks.ensures c.if-asks.false c.put_slot.auto.region c.put_slot.ensures
+pub returns-else-asks : goal.returns-else-asks
+returns-else-asks c = reading.noted_one c.args.work.now c.args.names.now c.put_slot.new.region c.staged_name-name.result.bytes c.args.i c.args.n _ _ c.requires.has_state c.requires.i_bound.0 c.requires.i_bound.1 c.entry.ensures c.in-Unread.is c.staged_name-name.ensures.reads c.asks.ensures c.if-asks.false c.put_slot.auto.region c.put_slot.ensures
 
 pub returns-in-Present : goal.returns-in-Present
-returns-in-Present c = reading.noted_present c.args.work.now c.args.names.now c.args.i c.args.n _ c.requires.i_bound.0 c.requires.i_bound.1 c.staged_kind-kind.ensures c.in-Present.is
-
-pub returns-in-Removed : goal.returns-in-Removed
-returns-in-Removed c = reading.noted_removed c.args.work.now c.args.names.now c.args.i c.args.n _ c.requires.i_bound.0 c.requires.i_bound.1 c.staged_kind-kind.ensures c.in-Removed.is
+returns-in-Present c = reading.noted_apart c.args.work.now c.args.names.now c.args.i c.args.n _ c.requires.i_bound.0 c.requires.i_bound.1 c.entry.ensures c.in-Present.is

@@ -15,8 +15,8 @@ name_from-name-requires c =
 pub returns-then-is_create : goal.returns-then-is_create
 returns-then-is_create c = record { reads = queueing.target_create (meant_edit c.args.frame.now c.args.edit) (c.is_create.ensures c.args.frame.now) c.if-is_create.true (c.name_from-name.ensures.0 ∙ c.bytes.ensures.result_value); named = c.name_from-name.ensures.1 }
 
-pub returns-then-to : goal.returns-then-to
-returns-then-to c = record { reads = queueing.target_alias (meant_edit c.args.frame.now c.args.edit) (c.is_create.ensures c.args.frame.now) (name_of c.name_from-name.result.bytes) c.alias-to.result.name.bytes c.alias-to.result.found c.if-is_create.false (c.name_from-name.ensures.0 ∙ c.bytes.ensures.result_value) c.alias-to.ensures.reads c.if-to.true; named = c.alias-to.ensures.named_2 }
+pub returns-in-None : goal.returns-in-None
+returns-in-None c = record { reads = queueing.target_same (meant_edit c.args.frame.now c.args.edit) (c.is_create.ensures c.args.frame.now) (name_of c.name_from-name.result.bytes) c.alias.result c.if-is_create.false (c.name_from-name.ensures.0 ∙ c.bytes.ensures.result_value) c.alias.ensures.reads c.in-None.is; named = c.name_from-name.ensures.1 }
 
-pub returns : goal.returns
-returns c = record { reads = queueing.target_same (meant_edit c.args.frame.now c.args.edit) (c.is_create.ensures c.args.frame.now) (name_of c.name_from-name.result.bytes) c.alias-to.result.name.bytes c.alias-to.result.found c.if-is_create.false (c.name_from-name.ensures.0 ∙ c.bytes.ensures.result_value) c.alias-to.ensures.reads c.if-to.false; named = c.name_from-name.ensures.1 }
+pub returns-in-Some : goal.returns-in-Some
+returns-in-Some c = record { reads = queueing.target_alias (meant_edit c.args.frame.now c.args.edit) (c.is_create.ensures c.args.frame.now) (name_of c.name_from-name.result.bytes) c.alias.result c.in-Some.to c.if-is_create.false (c.name_from-name.ensures.0 ∙ c.bytes.ensures.result_value) c.alias.ensures.reads c.in-Some.is; named = c.in-Some.ensures.named_2 }

@@ -8,8 +8,8 @@ use Rattle.wellformed.proofs.rules.is_queued.Goals as goal
 pub returns-then-not-is_edit : goal.returns-then-not-is_edit
 returns-then-not-is_edit c = queued_other (slots_of 5940 c.args.entries.now) c.args.flights.now c.args.at _ c.is_edit.ensures (not-true _ (ap not c.if-not-is_edit.true))
 
-pub returns-in-Found : goal.returns-in-Found
-returns-in-Found c = queued_is (slots_of 5940 c.args.entries.now) c.args.flights.now c.args.at _ _ _ c.is_edit.ensures (not-false _ (ap not c.if-not-is_edit.false)) c.find-p.ensures c.in-Found.is
+pub returns-in-Ok : goal.returns-in-Ok
+returns-in-Ok c = queued_is (slots_of 5940 c.args.entries.now) c.args.flights.now c.args.at _ _ _ c.is_edit.ensures (not-false _ (ap not c.if-not-is_edit.false)) c.find-p.ensures c.in-Ok.is
 
-pub returns-in-Missing : goal.returns-in-Missing
-returns-in-Missing c = queued_is (slots_of 5940 c.args.entries.now) c.args.flights.now c.args.at _ _ _ c.is_edit.ensures (not-false _ (ap not c.if-not-is_edit.false)) c.find-p.ensures c.in-Missing.is
+pub returns-in-Err : goal.returns-in-Err
+returns-in-Err c = queued_is (slots_of 5940 c.args.entries.now) c.args.flights.now c.args.at _ _ _ c.is_edit.ensures (not-false _ (ap not c.if-not-is_edit.false)) c.find-p.ensures c.in-Err.is
