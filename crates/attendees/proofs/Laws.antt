@@ -19,7 +19,7 @@ use Rattle.comparison.proofs.Laws.{same_nil, same_cons}
 use Rattle.frame.specs.Read.{skips, start, value_at, value_of}
 use Rattle.frame.specs.declared.Cursor.{Cursor}
 use Rattle.comparison.specs.Bytes.{same_folded, raw, span}
-use Rattle.attendees.specs.Entries.{entry_count, entry_at, entry_bytes, address_of, one_if, tally_of, occurrence_of, find_from, find_bytes, shown_address, head_of, reply_of, kind_of, same_rest, judge_whole, judge_removed, rest_refused, judge_standing, judge_own, judge_of, entry_value_items, side_bytes, entry_refused, entry_conflict, entry_items, own_of, key_items, our_key_items, their_items, our_items, entries_items}
+use Rattle.attendees.specs.Entries.{entry_count, entry_at, entry_bytes, address_of, one_if, tally_of, occurrence_of, find_from, find_bytes, shown_address, head_of, reply_of, kind_of, same_rest, judge_whole, judge_removed, rest_refused, judge_standing, judge_own, judge_of, entry_value_items, side_bytes, entry_items, own_of, key_items, our_key_items, their_items, our_items, entries_items}
 use Rattle.attendees.specs.declared.judging.Judged.{Judged}
 
 module _ (e : List ℕ) where
@@ -202,31 +202,6 @@ value_none e reply h = rw (eq-eqb (length e) 0 h)
 pub value_some : (e x : List ℕ) (reply k : ℕ) → (length e ≡ 0 → ⊥) → x ≡ head_of e → k ≡ kind_of e → ((x ++ (reply ∷ k ∷ [])) ∷ []) ≡ entry_value_items e reply
 unfolding entry_value_items
 value_some e x reply k h f g = rw (ne_eqb (length e) 0 h, f, g)
-
-module _ (which : ℕ) (j : Judged) (b o t : List ℕ) where
-  pub items_ours : which ≡ 0 → j.ours ≡ true → entry_value_items o j.reply ≡ entry_items which j b o t
-  unfolding entry_items
-  items_ours h e = rw (eq-eqb which 0 h, e)
-
-  pub items_theirs : which ≡ 0 → j.ours ≡ false → entry_value_items t j.reply ≡ entry_items which j b o t
-  unfolding entry_items
-  items_theirs h e = rw (eq-eqb which 0 h, e)
-
-  pub items_conflict : (which ≡ 0 → ⊥) → which ≡ 1 → j.conflict ≡ true → (entry_conflict b o t ∷ []) ≡ entry_items which j b o t
-  unfolding entry_items
-  items_conflict g h e = rw (ne_eqb which 0 g, eq-eqb which 1 h, e)
-
-  pub items_calm : (which ≡ 0 → ⊥) → which ≡ 1 → j.conflict ≡ false → [] ≡ entry_items which j b o t
-  unfolding entry_items
-  items_calm g h e = rw (ne_eqb which 0 g, eq-eqb which 1 h, e)
-
-  pub items_refused : (which ≡ 0 → ⊥) → (which ≡ 1 → ⊥) → j.refused ≡ true → (entry_refused b o t ∷ []) ≡ entry_items which j b o t
-  unfolding entry_items
-  items_refused g h e = rw (ne_eqb which 0 g, ne_eqb which 1 h, e)
-
-  pub items_owned : (which ≡ 0 → ⊥) → (which ≡ 1 → ⊥) → j.refused ≡ false → [] ≡ entry_items which j b o t
-  unfolding entry_items
-  items_owned g h e = rw (ne_eqb which 0 g, ne_eqb which 1 h, e)
 
 -- the loops
 

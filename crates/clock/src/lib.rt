@@ -21,8 +21,7 @@ use state::Purpose;
 fn tell_id(out: &mut [u8], p: Progress, id: Name) -> Progress
     ensures { Pushes (Effect.Notify (Notice.Expired (name_of id.bytes))) out.old p result out.new }
 {
-    let key = id.bytes;
-    let pen = effects::expired(machine::pen_of(p), out, machine::text_of(&key));
+    let pen = effects::expired(machine::pen_of(p), out, machine::text_of(&id.bytes));
     machine::sent(p, pen)
 }
 
@@ -34,11 +33,9 @@ fn tell_expired(work: &[u8], out: &mut [u8], p: Progress, name: Name, j: usize) 
 {
     let n = waiting::ids_count(work, name, j);
     let mut q = p;
-    let mut k = 0;
-    while k < n {
+    for k in 0..n {
         let id = waiting::entry_id(work, name, j, k);
         q = tell_id(out, q, id);
-        k += 1;
     }
     q
 }
@@ -63,10 +60,8 @@ fn tell_due(work: &[u8], out: &mut [u8], p: Progress, name: Name, n: usize, at: 
 {
     let total = waiting::waiting_count(work, name);
     let mut q = p;
-    let mut j = n;
-    while j < total {
+    for j in n..total {
         q = tell_if_due(work, out, q, name, j, at);
-        j += 1;
     }
     q
 }
@@ -89,9 +84,8 @@ fn drop_due(work: &mut [u8], name: Name, n: usize, at: i64)
     requires named { Named name.bytes }
     ensures { Edits (λ s. put_queue (name_of name.bytes) (kept_behind n at (queue (name_of name.bytes) s)) s) work.old work.new }
 {
-    let mut j = waiting::waiting_count(work, name);
-    while n < j {
-        j -= 1;
+    let total = waiting::waiting_count(work, name);
+    for j in (n..total).rev() {
         drop_if_due(work, name, j, at);
     }
 }
@@ -101,10 +95,7 @@ fn head_falls(work: &[u8], name: Name, at: i64) -> bool
     requires named { Named name.bytes }
     ensures { Reads (head_falls at (name_of name.bytes)) work.now result }
 {
-    if waiting::is_due(work, name, 0, at) {
-        return !state::asks(work, Purpose::EditWrite(name));
-    }
-    false
+    waiting::is_due(work, name, 0, at) && !state::asks(work, Purpose::EditWrite(name))
 }
 
 fn tick_resource(work: &mut [u8], out: &mut [u8], p: Progress, name: Name, at: i64) -> Progress
@@ -128,13 +119,10 @@ fn tick_each(work: &mut [u8], out: &mut [u8], p: Progress, at: i64) -> Progress
     ensures { Does (tick_each at) work.old out.old p result work.new out.new }
 {
     let names = waiting::resources(work);
-    let count = names.count;
     let mut q = p;
-    let mut k = 0;
-    while k < count {
-        let name = waiting::resource_name(names, k);
+    for k in 0..names.len() {
+        let name = names.name(k);
         q = tick_resource(work, out, q, name, at);
-        k += 1;
     }
     q
 }

@@ -23,11 +23,12 @@ pub fn same_folded(a: &[u8], b: &[u8]) -> bool
 }
 
 // What is written of a unit: its merged value, its conflict or its refusal.
-pub const MERGED: u8 = 0;
-
-pub const CONFLICTS: u8 = 1;
-
-pub const REFUSED: u8 = 2;
+#[derive(Clone, Copy, PartialEq, Eq)]
+pub enum Which {
+    Merged,
+    Conflicts,
+    Refused,
+}
 
 #[derive(Clone, Copy, PartialEq, Eq)]
 pub enum Verdict {

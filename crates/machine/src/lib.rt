@@ -179,6 +179,6 @@ pub fn doubtful(work: &[u8], id: u64, name: Name) -> bool
     }
     match state::learned(work, name) {
         None => false,
-        Some(since) => id < since,
+        Some(n) => id < n,
     }
 }

@@ -1,5 +1,5 @@
 -- `forget_settled` and `forget_aliases`. Assumes nothing.
-use Rattle.std.specs.Prelude.{Option, Some, None}
+use Rattle.std.specs.Prelude.{Option, Some, None, Result, Ok, Err, is_ok, is_some as option_is_some}
 use Rattle.format.proofs.Options.{Some-injective, None-ne-Some}
 use Prim.Native.Nat.{ℕ, ◌+◌, ◌-◌, ◌≤◌, ◌<◌, Ordering}
 use native.Mathlib.Omega.{arith}
@@ -29,7 +29,6 @@ use Rattle.state.specs.Setters.{with_learned, with_learned_all, with_aliases}
 use Rattle.state.specs.Fits.{QueueFits}
 use Rattle.state.specs.Contract.{Keeps, HasState, Reads, Edits}
 use Rattle.state.specs.Values.{name_of, Named}
-use Rattle.std.specs.Prelude.{is_some as is_Some, is_ok, Result, Ok, Err}
 use Rattle.state.proofs.Padded.{text_name_only}
 use Rattle.state.proofs.Columns as columns
 use Rattle.state.proofs.Ops as ops
@@ -97,22 +96,15 @@ settled_some n {w} {w₁} R z E = record {
 
 -- ---- whether a resource is held
 
-pub has_found : (r : Text) {w : List ℕ} {pl : Option ℕ} (at : ℕ) → FindsRecord r w pl → pl ≡ Some at → Reads (λ s. is_some (get by_name r s.records)) w true
+pub has_found : (r : Text) (w : List ℕ) (pl : Option ℕ) → FindsRecord r w pl → Reads (λ s. is_some (get by_name r s.records)) w (option_is_some pl)
 unfolding RecordIs is_some
-has_found r {w} at F q = record { is = λ s h. let R : RecordAt r w s at = subst (λ (x : Option ℕ). RecordIs r w s x) q (F.is s h) in sym (ap is_some R.got) }
+has_found r w (Some at) F = record { is = λ s h. let R : RecordAt r w s at = F.is s h in sym (ap is_some R.got) }
+has_found r w None F = record { is = λ s h. sym (ap is_some (F.is s h)) }
 
-pub has_missing : (r : Text) {w : List ℕ} {pl : Option ℕ} → FindsRecord r w pl → pl ≡ None → Reads (λ s. is_some (get by_name r s.records)) w false
-unfolding RecordIs is_some
-has_missing r {w} F q = record { is = λ s h. let R : get by_name r s.records ≡ None = subst (λ (x : Option ℕ). RecordIs r w s x) q (F.is s h) in sym (ap is_some R) }
-
-pub has_record_is : (r : Text) {w : List ℕ} (pl : Option ℕ) → FindsRecord r w pl → Reads (λ s. is_some (get by_name r s.records)) w (is_Some pl)
-has_record_is r None F = has_missing r F refl
-has_record_is r (Some at) F = has_found r at F refl
-
-pub is_staged_is : (b w : List ℕ) (x : Result ℕ ℕ) → Named b → ((t : Table) → Sized 916 t → part 9221 9161 w ≡ enc_table 9161 t → x ≡ place 916 b t 1) → Reads (λ s. is_some (get by_name (name_of b) (staged_of s))) w (is_ok x)
+pub staged_found : (b w : List ℕ) (r : Result ℕ ℕ) → Named b → ((t : Table) → Sized 916 t → part 9221 9161 w ≡ enc_table 9161 t → r ≡ place 916 b t 1) → Reads (λ s. is_some (get by_name (name_of b) (staged_of s))) w (is_ok r)
 unfolding is_some
-is_staged_is b w (Ok p) N g = record { is = λ s h. sym (ap is_some (columns.there staged.staged_column b w (name_of b) p N.ok refl s h g).got) }
-is_staged_is b w (Err p) N g = record { is = λ s h. sym (ap is_some (columns.not_there staged.staged_column b w (name_of b) p N.ok refl s h g)) }
+staged_found b w (Ok p) N g = record { is = λ s h. sym (ap is_some (columns.there staged.staged_column b w (name_of b) p N.ok refl s h g).got) }
+staged_found b w (Err p) N g = record { is = λ s h. sym (ap is_some (columns.not_there staged.staged_column b w (name_of b) p N.ok refl s h g)) }
 
 in_pass_is : (r : ResourceId) (s : SyncState) → (is_some (get by_name r (staged_of s)) || has r (pass_of s.pass).observed) ≡ held_in_pass r s
 unfolding is_some is_some_and pass_of no_pass get has any
@@ -253,11 +245,17 @@ held_entry s e = held_in e.1 s
 abbrev pub Retaining : List ℕ → List ℕ → ℕ → ℕ → Type 0
 Retaining = retaining.Retaining (λ s. s.aliases) with_aliases held_entry
 
-pub retain_start : (w : List ℕ) (n : ℕ) → Reads (λ s. length s.aliases) w n → Retaining w w 0 n
-retain_start w n R = retaining.retain_start w n (λ s h. h) R
+-- after k turns of n
+pub retain_start : (w : List ℕ) (n : ℕ) → Reads (λ s. length s.aliases) w n → Retaining w w 0 (n - 0)
+retain_start w n R =
+    let z : n ≡ n - 0 = omega arith in
+    subst (λ (x : ℕ). Retaining w w 0 x) z (retaining.retain_start w n (λ s h. h) R)
 
-pub retain_below : (w₀ w : List ℕ) (i left : ℕ) → HasState w₀ → Retaining w₀ w i left → 0 < left → i < get_or w 58014 0
-retain_below w₀ w i left K R l = retaining.retain_below w₀ w i left (get_or w 58014 0) (λ s m. refl) K R l (record { is = λ s h. columns.counted ops.alias_column s w h })
+pub retain_below : (w₀ w : List ℕ) (i n k : ℕ) → HasState w₀ → Retaining w₀ w i (n - k) → k < n → i < get_or w 58014 0
+retain_below w₀ w i n k K R l = retaining.retain_below w₀ w i (n - k) (get_or w 58014 0) (λ s m. refl) K R (omega arith) (record { is = λ s h. columns.counted ops.alias_column s w h })
 
-pub retain_turn : (w₀ w w' : List ℕ) (i left r : ℕ) → Retaining w₀ w i left → 0 < left → Tested i w r w' → Retaining w₀ w' r (left - 1)
-retain_turn w₀ w w' i left r R l T = retaining.retain_turn w₀ w w' i left r R l (λ s kept rest e h a. T.is (with_aliases (kept ++ (e ∷ rest)) s) h kept rest e refl a)
+pub retain_turn : (w₀ w w' : List ℕ) (i n k r : ℕ) → Retaining w₀ w i (n - k) → k < n → Tested i w r w' → Retaining w₀ w' r (n - (k + 1))
+retain_turn w₀ w w' i n k r R l T =
+    let z : n - k - 1 ≡ n - (k + 1) = omega arith in
+    subst (λ (x : ℕ). Retaining w₀ w' r x) z
+    (retaining.retain_turn w₀ w w' i (n - k) r R (omega arith) (λ s kept rest e h a. T.is (with_aliases (kept ++ (e ∷ rest)) s) h kept rest e refl a))

@@ -8,6 +8,7 @@ ghost use Rattle.observe.specs.Forgetting.{settled_before, settled, held_in_pass
 
 use names::Name;
 use pass_tables::Names;
+use staged::STAGED;
 
 fn forget_before(work: &mut [u8], oldest: u64)
     requires { HasState work.old }
@@ -29,7 +30,7 @@ pub fn forget_settled(work: &mut [u8])
             state::clear_learned(work);
             state::set_learned_all(work, 0);
         }
-        Some(oldest) => forget_before(work, oldest),
+        Some(n) => forget_before(work, n),
     }
 }
 
@@ -46,7 +47,7 @@ fn is_staged(work: &[u8], name: Name) -> bool
     requires named { Named name.bytes }
     ensures { Reads (λ s. is_some (get by_name (name_of name.bytes) (staged_of s))) work.now result }
 {
-    staged::STAGED.find(work, &name.bytes).is_ok()
+    STAGED.find(work, &name.bytes).is_ok()
 }
 
 fn in_pass(work: &[u8], name: Name) -> bool
@@ -96,10 +97,9 @@ pub fn forget_aliases(work: &mut [u8])
     requires { HasState work.old }
     ensures { Edits with_held_aliases work.old work.new }
 {
-    let mut left = state::alias_count(work);
+    let count = state::alias_count(work);
     let mut i = 0;
-    while 0 < left {
+    for _ in 0..count {
         i = forget_alias(work, i);
-        left -= 1;
     }
 }

@@ -50,8 +50,9 @@ module _ (w q : List ℕ) (i : ℕ) (k : Answer) (K : HasState w) (N : Reads (λ
   unfolding padded
   entry_has at e =
       let m = said K.state K.keeps (answer.Present at) e in
-      let x : ProviderEvent = m.0 in (
-        (let l = K.keeps.long in let r : at + 882 ≤ state_length = subst Inside e R.room in omega arith),
+      let x : ProviderEvent = m.0 in
+      let r : at + 882 ≤ state_length = subst Inside e R.room in (
+        (let l = K.keeps.long in omega arith),
         record {
           event = x;
           stands = record {

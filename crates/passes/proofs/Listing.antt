@@ -67,10 +67,10 @@ held_is name rev w revision mapper p r v F e version has = record {
       has R.event R.ok (version R.event (record_stands R)) ∙ sym (ap (is_some_and (λ e. same (option short_text) e.revision (Some rev))) R.got);
 }
 
-pub not_held : (name : Text) (rev : ProviderRevision) (w : List ℕ) (p : ℕ) (r : Option ℕ) → FindsRecord name w r → r ≡ None
+pub not_held : (name : Text) (rev : ProviderRevision) (w : List ℕ) (r : Option ℕ) → FindsRecord name w r → r ≡ None
     → Reads (λ s. is_some_and (λ e. same (option short_text) e.revision (Some rev)) (get by_name name s.records)) w false
 unfolding RecordIs is_some_and
-not_held name rev w p r F e = record {
+not_held name rev w r F e = record {
   is = λ s h. sym (ap (is_some_and (λ e. same (option short_text) e.revision (Some rev))) (subst (λ (x : Option ℕ). RecordIs name w s x) e (F.is s h)));
 }
 

@@ -2,16 +2,13 @@
 use Rattle.std.specs.Prelude.{Some, None}
 use Prim.Native.Nat.{ℕ, ◌+◌, ◌≤◌}
 use native.Mathlib.Omega.{arith}
-use mathlib.Core.Path.{◌≡◌, refl, sym, ap, ap₂, ◌∙◌, subst}
+use mathlib.Core.Path.{◌≡◌, refl, sym, ap, ◌∙◌, subst}
 use mathlib.Core.List.{List}
 use mathlib.Core.Bool.{Bool, true, false, not}
 use lib.ListN.{length}
 use lib.Dec.{leb, eqb}
-use Rattle.format.specs.Utf8.{is_text, chars}
 use Rattle.format.specs.Format.{via, enum, ◌∣◌}
 use Rattle.format.specs.Format.{text as textFormat}
-use Rattle.spans.specs.Bytes.{zeros}
-use Rattle.tables.specs.Table.{text}
 use Rattle.model.specs.Event.{Text}
 use Rattle.model.specs.Seam.{ListFrom, Request, Next, Outcome}
 use Rattle.model.specs.State as model
@@ -29,12 +26,9 @@ use Rattle.values.specs.declared.Next as places
 use Rattle.values.specs.declared.Next.TheVariants as next
 use Rattle.effects.specs.Told.{Told}
 use Rattle.pens.specs.declared.Pen.{Pen}
-use Rattle.state.specs.Layout.{padded, pass_of}
+use Rattle.state.specs.Layout.{pass_of}
 use Rattle.state.specs.Setters.{with_pass, with_cursor, with_in_flight, with_learned_all, pass_changed}
 use Rattle.state.specs.Contract.{Keeps, HasState, Reads, Edits}
-use Rattle.state.specs.Values.{Named}
-use Rattle.pass_header.specs.From.{from_in}
-use Rattle.pass_header.specs.declared.ListFrom.{ListFrom as From}
 use Rattle.staged.proofs.Bridge.{pass_full_is}
 use Rattle.machine.specs.declared.Progress.{Progress}
 use Rattle.machine.specs.Contract.{Does, Changes, Pushes}
@@ -46,11 +40,6 @@ use Rattle.passes.proofs.Changing as changing
 use Rattle.observe.proofs.Observing as observing
 
 -- ---- a request for a page
-
-module _ {w o o' : List ℕ} {p q : Pen} (id : ℕ) (k : From) (K : Reads (λ s. (pass_of s.pass).from) w (from_in k)) where
-  pub asks : (f : ListFrom) → f ≡ from_in k → Told (Effect.Request id (Request.List f)) o o' p q
-      → (s : SyncState) → Keeps s w → Told (Effect.Request id (Request.List (pass_of s.pass).from)) o o' p q
-  asks f e T s h = subst (λ (x : ListFrom). Told (Effect.Request id (Request.List x)) o o' p q) (e ∙ K.is s h) T
 
 pub short_enough : (t : Text) → short_text.Ok t → length t ≤ 255
 unfolding textFormat max_text

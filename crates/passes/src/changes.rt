@@ -62,10 +62,7 @@ fn holds(work: &[u8], name: Name, revision: &[u8]) -> bool
     ensures { Reads (λ s. is_some_and (λ e. same (option short_text) e.revision (Some revision.now)) (get by_name (name_of name.bytes) s.records)) work.now result }
 {
     match records::find_record(work, name) {
-        Some(at) => {
-            let held = versions::version_at(work, at + 33);
-            versions::has_revision(held, revision)
-        }
+        Some(at) => versions::has_revision(versions::version_at(work, at + 33), revision),
         None => false,
     }
 }

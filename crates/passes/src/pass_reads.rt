@@ -52,7 +52,6 @@ fn pass_read_found(
     let q = observe::observe_read(work, p, name, frame, event);
     if listed {
         Names::Observed.remove(work, name);
-        return q;
     }
     q
 }
@@ -69,7 +68,6 @@ fn pass_read_gone(work: &mut [u8], out: &mut [u8], p: Progress, id: u64, name: N
     let q = observe::observe_gone(work, p, name);
     if listed {
         Names::Observed.remove(work, name);
-        return q;
     }
     q
 }

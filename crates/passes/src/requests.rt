@@ -1,7 +1,6 @@
 // Requests for a page.
 ghost use Rattle.model.specs.Seam as seam;
 ghost use Rattle.model.specs.State as model;
-ghost use Rattle.model.specs.State.{SyncState};
 ghost use Rattle.model.specs.Calls.{Effect};
 ghost use Rattle.model.specs.Formats.{short_text};
 ghost use Rattle.model.specs.Machine.{request};
@@ -19,7 +18,7 @@ use state::Purpose;
 // Writes the request for the page that the open pass is to go on from.
 fn ask_from(pen: Pen, out: &mut [u8], id: u64, work: &[u8]) -> Pen
     requires { HasState work.now }
-    ensures { (s : SyncState) → Keeps s work.now → Told (Effect.Request id (seam.Request.List (pass_of s.pass).from)) out.old out.new pen result }
+    ensures { (s : model.SyncState) → Keeps s work.now → Told (Effect.Request id (seam.Request.List (pass_of s.pass).from)) out.old out.new pen result }
 {
     match pass_header::from(work) {
         ListFrom::Start => effects::list_start(pen, out, id),

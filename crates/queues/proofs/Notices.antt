@@ -79,10 +79,10 @@ gives_none effect w o p n = record {
   stays = λ n. refl;
 }
 
-module _ (j : ℕ) (r : ResourceId) (w : List ℕ) (at : ℕ) (place : Option ℕ) (F : FindsEntry r j w place) where
-  entry_there : place ≡ Some at → (s : SyncState) → Keeps s w → SomeEntryAt r j w s at
+module _ (j : ℕ) (r : ResourceId) (w : List ℕ) (place : Option ℕ) (F : FindsEntry r j w place) where
+  entry_there : (at : ℕ) → place ≡ Some at → (s : SyncState) → Keeps s w → SomeEntryAt r j w s at
   unfolding EntryIs
-  entry_there e s h = subst (EntryIs r j w s) e (F.is s h)
+  entry_there at e s h = subst (EntryIs r j w s) e (F.is s h)
 
   no_entry : place ≡ None → (s : SyncState) → Keeps s w → nth j (queue r s) ≡ None
   unfolding EntryIs
@@ -94,11 +94,11 @@ module _ (j : ℕ) (r : ResourceId) (w : List ℕ) (at : ℕ) (place : Option �
   unfolding applied_effect match◌none:◌some:◌
   applied_none id o p e = gives_none (applied_effect j id r) w o p (λ s h. rw (no_entry e s h))
 
-  pub applied_sent : (id : Text) {o o' edit cs rs : List ℕ} {p q : Progress} {x y : Pen} → place ≡ Some at → PartOf conflicts_f w (at + 1578) cs → PartOf refusals_f w (at + 4650) rs → edit ≡ id
+  pub applied_sent : (at : ℕ) (id : Text) {o o' edit cs rs : List ℕ} {p q : Progress} {x y : Pen} → place ≡ Some at → PartOf conflicts_f w (at + 1578) cs → PartOf refusals_f w (at + 4650) rs → edit ≡ id
       → x ≡ pen_of p → ToldOfBoth conflicts_f cs refusals_f rs (λ c d. Effect.Notify (Notice.Applied edit c d)) o o' x y → q ≡ sent_by p y → Sends (applied_effect j id r) w o p q o'
   unfolding applied_effect match◌none:◌some:◌
-  applied_sent id {o} {o'} {edit} {cs} {rs} {x = x} {y} e C R d a T b = gives (applied_effect j id r) w a b (λ s h e' k.
-      let E = entry_there e s h in
+  applied_sent at id {o} {o'} {edit} {cs} {rs} {x = x} {y} e C R d a T b = gives (applied_effect j id r) w a b (λ s h e' k.
+      let E = entry_there at e s h in
       let P : Pending = E.entry in
       let c : Effect.Notify (Notice.Applied id E.entry.conflicts E.entry.refused) ≡ e' =
       Some-injective (Effect.Notify (Notice.Applied id E.entry.conflicts E.entry.refused)) e' (sym (ap (λ (y : Option Pending). match y none: None some: (λ p. Some (Effect.Notify (Notice.Applied id p.conflicts p.refused)))) E.is.got) ∙ k) in
@@ -107,18 +107,18 @@ module _ (j : ℕ) (r : ResourceId) (w : List ℕ) (at : ℕ) (place : Option �
       (C.is P.conflicts (stands_field conflicts_f P.conflicts w (at + 1578) 3072 E.is.fits.conflicts E.is.conflicts))
       (R.is P.refused (stands_field refusals_f P.refused w (at + 4650) 1024 E.is.fits.refused E.is.refused))))
 
-module _ (r : ResourceId) (w : List ℕ) (at : ℕ) (place : Option ℕ) (F : FindsEntry r 0 w place) where
+module _ (r : ResourceId) (w : List ℕ) (place : Option ℕ) (F : FindsEntry r 0 w place) where
   -- ---- the request that creates
 
   pub create_none : (n : RequestId) (o : List ℕ) (p : Progress) → place ≡ None → Sends (create_effect n r) w o p p o
   unfolding create_effect created match◌none:◌some:◌
-  create_none n o p e = gives_none (create_effect n r) w o p (λ s h. rw (no_entry 0 r w at place F e s h))
+  create_none n o p e = gives_none (create_effect n r) w o p (λ s h. rw (no_entry 0 r w place F e s h))
 
-  pub create_sent : (n : RequestId) {o o' resource event : List ℕ} {p q : Progress} {x y : Pen} → place ≡ Some at → PartOf event_f w (at + 67) event → resource ≡ r
+  pub create_sent : (at : ℕ) (n : RequestId) {o o' resource event : List ℕ} {p q : Progress} {x y : Pen} → place ≡ Some at → PartOf event_f w (at + 67) event → resource ≡ r
       → x ≡ pen_of p → ToldOf event_f event (λ v. Effect.Request n (seam.Request.Create resource v)) o o' x y → q ≡ sent_by p y → Sends (create_effect n r) w o p q o'
   unfolding create_effect created created_by match◌none:◌some:◌
-  create_sent n {o} {o'} {resource} {event} {x = x} {y} e C d a T b = gives (create_effect n r) w a b (λ s h e' k.
-      let E = entry_there 0 r w at place F e s h in
+  create_sent at n {o} {o'} {resource} {event} {x = x} {y} e C d a T b = gives (create_effect n r) w a b (λ s h e' k.
+      let E = entry_there 0 r w place F at e s h in
       go e' E.entry.edit.operation E.is.fits.operation E.is.operation (sym (ap (λ (y : Option Pending). match created y none: None some: (λ v. Some (Effect.Request n (seam.Request.Create r v)))) E.is.got) ∙ k))
     where
       go : (e' : Effect) (op : Operation) → operation_f.Ok op → take 1469 (drop (at + 66) w) ≡ field 1469 operation_f op → (match created_by op none: None some: (λ v. Some (Effect.Request n (seam.Request.Create r v)))) ≡ Some e' → Told e' o o' x y

@@ -1,5 +1,4 @@
 -- `enqueue`: an entry appended, folded into or cancelled, and the resource that an edit is for. Assumes nothing.
-use Rattle.names.specs.declared.Name.{Name}
 use Rattle.std.specs.Prelude.{Option, Some, None}
 use Rattle.format.proofs.Options.{None-ne-Some}
 use Prim.Native.Nat.{ℕ, suc, ◌-◌, ◌≤◌}
@@ -28,6 +27,8 @@ use Rattle.model.proofs.Flights.{foldable_back}
 use Rattle.frame.specs.Meaning.{meant_operation}
 use Rattle.frame.specs.declared.Operation as places
 use Rattle.frame.specs.declared.Operation.TheVariants as place_of
+use Rattle.std.specs.Option.{unwrap_or}
+use Rattle.names.specs.declared.Name.{Name}
 use Rattle.state.specs.Values.{name_of, name_in}
 use Rattle.state.specs.Contract.{Keeps, HasState, Reads, Edits, Tries}
 use Rattle.waiting.specs.Queues.{queue, put_queue, all_entries, nth, without, change_last, may_absorb}
@@ -306,21 +307,16 @@ module _ (e : Edit) {w : List ℕ} {b : Bool} (B : b ≡ is_create e.operation) 
   unfolding target_of when◌then◌else◌
   target_create z q = record { is = λ s h. q ∙ sym (ap (λ (c : Bool). when c then e.resource else (match get by_name e.resource s.aliases none: e.resource some: (λ to. to))) (sym B ∙ z)) }
 
-  pub target_alias : (n : List ℕ) (x : Option Name) (to : Name) → b ≡ false → n ≡ e.resource → Reads (λ s. get by_name n s.aliases) w (name_in x) → x ≡ Some to → Reads (target_of e) w (name_of to.bytes)
+  pub target_other : (n : Name) (x : Option Name) → b ≡ false → name_of n.bytes ≡ e.resource → Reads (λ s. get by_name (name_of n.bytes) s.aliases) w (name_in x) → Reads (target_of e) w (name_of (unwrap_or x n).bytes)
   unfolding target_of when◌then◌else◌ match◌none:◌some:◌
-  target_alias n x to z q A k = record {
-    is = λ s h.
-        let a : Some (name_of to.bytes) ≡ get by_name e.resource s.aliases = ap name_in (sym k) ∙ A.is s h ∙ ap (λ (x : List ℕ). get by_name x s.aliases) q in
-        sym (ap (λ (c : Bool). when c then e.resource else (match get by_name e.resource s.aliases none: e.resource some: (λ to. to))) (sym B ∙ z) ∙ ap (λ x. match x none: e.resource some: (λ to. to)) (sym a));
+  target_other n x z q A = record {
+    is = λ s h. followed x q ∙ sym (ap (λ (c : Bool). when c then e.resource else (match get by_name e.resource s.aliases none: e.resource some: (λ to. to))) (sym B ∙ z)
+        ∙ ap (λ y. match y none: e.resource some: (λ to. to)) (ap (λ (k : List ℕ). get by_name k s.aliases) (sym q) ∙ sym (A.is s h)));
   }
-
-  pub target_same : (n : List ℕ) (x : Option Name) → b ≡ false → n ≡ e.resource → Reads (λ s. get by_name n s.aliases) w (name_in x) → x ≡ None → Reads (target_of e) w n
-  unfolding target_of when◌then◌else◌ match◌none:◌some:◌
-  target_same n x z q A k = record {
-    is = λ s h.
-        let a : None ≡ get by_name e.resource s.aliases = ap name_in (sym k) ∙ A.is s h ∙ ap (λ (x : List ℕ). get by_name x s.aliases) q in
-        q ∙ sym (ap (λ (c : Bool). when c then e.resource else (match get by_name e.resource s.aliases none: e.resource some: (λ to. to))) (sym B ∙ z) ∙ ap (λ x. match x none: e.resource some: (λ to. to)) (sym a));
-  }
+    where
+      followed : (x : Option Name) → name_of n.bytes ≡ e.resource → name_of (unwrap_or x n).bytes ≡ (match name_in x none: e.resource some: (λ to. to))
+      followed None q = q
+      followed (Some to) q = refl
 
 pub creates : (s : List ℕ) {o : places.Operation} (event : ℕ) → o ≡ place_of.Create event → true ≡ is_create (meant_operation s o)
 unfolding is_create

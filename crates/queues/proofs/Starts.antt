@@ -1,13 +1,14 @@
 -- `start_edit` and `finish`: what each does in terms of the other, and that the queue's length falls at each round. Assumes nothing.
-use Rattle.std.specs.declared.cmp.Ordering.TheVariants.{Equal}
 use Rattle.std.specs.Prelude.{Option, Some, None}
-use Prim.Native.Nat.{ℕ, ◌+◌, ◌-◌, ◌*◌, ◌<◌}
+use Rattle.format.proofs.Options.{None-ne-Some}
+use Prim.Native.Nat.{ℕ, ◌+◌, ◌*◌, ◌<◌}
 use native.Mathlib.Omega.{arith}
 use mathlib.Core.Path.{◌≡◌, refl, sym, ap, ◌∙◌, subst}
 use mathlib.Core.List.{List, [], ◌∷◌, ◌++◌}
 use mathlib.Core.Bool.{Bool, true, false}
 use lib.Dec.{leb, T}
 use lib.ListN.{length, take, drop}
+use Rattle.std.specs.declared.cmp.Ordering.TheVariants.{Equal}
 use Rattle.tables.specs.Table.{slots_of}
 use Rattle.model.specs.Event.{ProviderEvent}
 use Rattle.model.specs.Seam.{ResourceId}
@@ -29,9 +30,8 @@ use Rattle.state.specs.Values.{name_of}
 use Rattle.state.specs.Contract.{HasState, Reads, Edits}
 use Rattle.state.proofs.Regions.{layout_same}
 use Rattle.waiting.specs.Queues.{queue, queue_in, put_queue, nth, without}
-use Rattle.format.proofs.Options.{Some-injective}
-use Rattle.waiting.specs.declared.OperationCase.{OperationCase}
-use Rattle.waiting.specs.declared.OperationCase.TheVariants as case
+use Rattle.waiting.specs.declared.readers.OperationCase.{OperationCase}
+use Rattle.waiting.specs.declared.readers.OperationCase.TheVariants as Case
 use Rattle.waiting.specs.Reading.{case_of, operation_case_of, by_attendee}
 use Rattle.waiting.specs.Slots.{tallied}
 use Rattle.waiting.proofs.Bridge.{queue_is, put_is, set_queue_is}
@@ -52,53 +52,63 @@ unfolding by_attendee is_attendee
 attendee_is Role.Owner = refl
 attendee_is (Role.Attendee a) = refl
 
+-- cases told apart by a number
+abbrev case_number : Option OperationCase → ℕ
+case_number None = 0
+case_number (Some Case.Create) = 1
+case_number (Some Case.Update) = 2
+case_number (Some Case.Delete) = 3
+
+no_case : {a b : Option OperationCase} → a ≡ b → (case_number a ≡ case_number b → ⊥) → ⊥
+no_case e k = k (ap case_number e)
+
+begins_writing : (x : Option Pending) (b : Bool) → Some Case.Create ≡ operation_case_of x → b ≡ is_some_and (λ p. creates_under_key p.edit.operation) x → begins_write b ≡ begins_as x
+unfolding operation_case_of begins_as begins_by is_some_and creates_under_key
+begins_writing None b e k = absurd (None-ne-Some Case.Create (sym e))
+begins_writing (Some p) b e k = go p.edit.operation e k
+  where
+    go : (o : Operation) → Some Case.Create ≡ Some (case_of o) → b ≡ creates_under_key o → begins_write b ≡ begins_by o p.edit.role
+    go (Operation.Create event) e k = ap begins_write k
+    go (Operation.Update base ours) e k = absurd (no_case e (λ n. omega arith))
+    go Operation.Delete e k = absurd (no_case e (λ n. omega arith))
+
+begins_deleting : (x : Option Pending) (b : Bool) → Some Case.Delete ≡ operation_case_of x → b ≡ is_some_and (λ p. by_attendee p.edit.role) x → begins_delete b ≡ begins_as x
+unfolding operation_case_of begins_as begins_by is_some_and
+begins_deleting None b e k = absurd (None-ne-Some Case.Delete (sym e))
+begins_deleting (Some p) b e k = go p.edit.operation e
+  where
+    go : (o : Operation) → Some Case.Delete ≡ Some (case_of o) → begins_delete b ≡ begins_by o p.edit.role
+    go (Operation.Create event) e = absurd (no_case e (λ n. omega arith))
+    go (Operation.Update base ours) e = absurd (no_case e (λ n. omega arith))
+    go Operation.Delete e = ap begins_delete (k ∙ attendee_is p.edit.role)
+
+begins_otherwise : (x : Option Pending) → Some Case.Update ≡ operation_case_of x → Start.Read ≡ begins_as x
+unfolding operation_case_of begins_as begins_by
+begins_otherwise None e = absurd (None-ne-Some Case.Update (sym e))
+begins_otherwise (Some p) e = go p.edit.operation e
+  where
+    go : (o : Operation) → Some Case.Update ≡ Some (case_of o) → Start.Read ≡ begins_by o p.edit.role
+    go (Operation.Create event) e = absurd (no_case e (λ n. omega arith))
+    go (Operation.Update base ours) e = refl
+    go Operation.Delete e = absurd (no_case e (λ n. omega arith))
+
 begins_nothing : (x : Option Pending) → None ≡ operation_case_of x → Start.Nothing ≡ begins_as x
 unfolding operation_case_of begins_as
 begins_nothing None e = refl
-begins_nothing (Some p) e = cc
-
-begins_writing : (x : Option Pending) (b : Bool) → Some case.Create ≡ operation_case_of x → b ≡ is_some_and (λ p. creates_under_key p.edit.operation) x → begins_write b ≡ begins_as x
-unfolding operation_case_of begins_as begins_by is_some_and creates_under_key
-begins_writing None b e k = cc
-begins_writing (Some p) b e k = go p.edit.operation (Some-injective _ _ e) k
-  where
-    go : (o : Operation) → case.Create ≡ case_of o → b ≡ creates_under_key o → begins_write b ≡ begins_by o p.edit.role
-    go (Operation.Create event) e k = ap begins_write k
-    go (Operation.Update base ours) e k = cc
-    go Operation.Delete e k = cc
-
-begins_deleting : (x : Option Pending) (b : Bool) → Some case.Delete ≡ operation_case_of x → b ≡ is_some_and (λ p. by_attendee p.edit.role) x → begins_delete b ≡ begins_as x
-unfolding operation_case_of begins_as begins_by is_some_and
-begins_deleting None b e k = cc
-begins_deleting (Some p) b e k = go p.edit.operation (Some-injective _ _ e)
-  where
-    go : (o : Operation) → case.Delete ≡ case_of o → begins_delete b ≡ begins_by o p.edit.role
-    go (Operation.Create event) e = cc
-    go (Operation.Update base ours) e = cc
-    go Operation.Delete e = ap begins_delete (k ∙ attendee_is p.edit.role)
-
-begins_reading : (x : Option Pending) → Some case.Update ≡ operation_case_of x → Start.Read ≡ begins_as x
-unfolding operation_case_of begins_as begins_by
-begins_reading None e = cc
-begins_reading (Some p) e = go p.edit.operation (Some-injective _ _ e)
-  where
-    go : (o : Operation) → case.Update ≡ case_of o → Start.Read ≡ begins_by o p.edit.role
-    go (Operation.Create event) e = cc
-    go (Operation.Update base ours) e = refl
-    go Operation.Delete e = cc
+begins_nothing (Some p) e = absurd (None-ne-Some (case_of p.edit.operation) e)
 
 module _ (r : ResourceId) {w : List ℕ} {c : Option OperationCase} (C : Reads (λ s. operation_case_of (nth 0 (queue r s))) w c) where
   pub begin_none : c ≡ None → Reads (λ s. begins_as (nth 0 (queue r s))) w Start.Nothing
   begin_none e = record { is = λ s h. begins_nothing (nth 0 (queue r s)) (sym e ∙ C.is s h) }
 
-  pub begin_write : (b b' : Bool) → c ≡ Some case.Create → Reads (λ s. is_some_and (λ p. creates_under_key p.edit.operation) (nth 0 (queue r s))) w b → b ≡ b' → Reads (λ s. begins_as (nth 0 (queue r s))) w (begins_write b')
-  begin_write b b' e L k = record { is = λ s h. begins_writing (nth 0 (queue r s)) b' (sym e ∙ C.is s h) (sym k ∙ L.is s h) }
+  pub begin_write : (b : Bool) {b' : Bool} → c ≡ Some Case.Create → Reads (λ s. is_some_and (λ p. creates_under_key p.edit.operation) (nth 0 (queue r s))) w b' → b' ≡ b → Reads (λ s. begins_as (nth 0 (queue r s))) w (begins_write b)
+  begin_write b e L k = record { is = λ s h. begins_writing (nth 0 (queue r s)) b (sym e ∙ C.is s h) (sym k ∙ L.is s h) }
 
-  pub begin_delete : (b b' : Bool) → c ≡ Some case.Delete → Reads (λ s. is_some_and (λ p. by_attendee p.edit.role) (nth 0 (queue r s))) w b → b ≡ b' → Reads (λ s. begins_as (nth 0 (queue r s))) w (begins_delete b')
-  begin_delete b b' e L k = record { is = λ s h. begins_deleting (nth 0 (queue r s)) b' (sym e ∙ C.is s h) (sym k ∙ L.is s h) }
+  pub begin_delete : (b : Bool) {b' : Bool} → c ≡ Some Case.Delete → Reads (λ s. is_some_and (λ p. by_attendee p.edit.role) (nth 0 (queue r s))) w b' → b' ≡ b → Reads (λ s. begins_as (nth 0 (queue r s))) w (begins_delete b)
+  begin_delete b e L k = record { is = λ s h. begins_deleting (nth 0 (queue r s)) b (sym e ∙ C.is s h) (sym k ∙ L.is s h) }
 
-  pub begin_read : c ≡ Some case.Update → Reads (λ s. begins_as (nth 0 (queue r s))) w Start.Read
-  begin_read e = record { is = λ s h. begins_reading (nth 0 (queue r s)) (sym e ∙ C.is s h) }
+  pub begin_read : c ≡ Some Case.Update → Reads (λ s. begins_as (nth 0 (queue r s))) w Start.Read
+  begin_read e = record { is = λ s h. begins_otherwise (nth 0 (queue r s)) (sym e ∙ C.is s h) }
 
 -- ---- start_edit
 
@@ -272,7 +282,7 @@ module _ (r : ResourceId) (rejection : Option Rejection) {w : List ℕ} {n : ℕ
 
 -- the entries whose key is the name
 abbrev pub queue_length : List ℕ → List ℕ → ℕ
-queue_length b w = tallied Equal b (slots_of 5940 (take (20002 + 35641 - 20002) (drop 20002 w)))
+queue_length b w = tallied Equal b (slots_of 5940 (take 35641 (drop 20002 w)))
 
 pub length_read : (b w : List ℕ) → Reads (λ s. length (queue (name_of b) s)) w (queue_length b w)
 length_read b w = splices.reads_own b w (queue_length b w) (name_of b) refl (waiting.tallied_in Equal b w (queue_length b w) refl)

@@ -5,7 +5,6 @@ ghost use Rattle.model.specs.Event.{NormalizedEvent, ProviderEvent};
 ghost use Rattle.model.specs.Edits as edits;
 ghost use Rattle.model.specs.State.{SyncState};
 ghost use Rattle.model.specs.Formats.{fields_f, event_f, operation_f, role_f, edit_f};
-ghost use Rattle.model.specs.Maps.{same_text};
 ghost use Rattle.model.specs.Sync.{is_attendee, fold_operation, coalesce, coalesced_with, foldable};
 ghost use Rattle.frame.specs.Meaning.{fields_at, meant_role, meant_operation, meant_edit};
 ghost use Rattle.state.specs.Contract.{Keeps, HasState};
@@ -27,12 +26,6 @@ pub enum Folded {
     Cancelled,
 }
 
-fn same_bytes(a: &[u8], b: &[u8]) -> bool
-    ensures { result ≡ same_text a.now b.now }
-{
-    a == b
-}
-
 // An update behind one whose fields stand at `at`.
 fn fold_into_update(
     work: &[u8],
@@ -48,7 +41,7 @@ fn fold_into_update(
     let base = fields_at(work, at);
     let ours = fields_at(work, fields_end(work, at));
     let expected = fields_at(frame, from);
-    if same_bytes(expected, ours) {
+    if expected == ours {
         let new = fields_at(frame, to);
         let end = start().byte(buf, 1).part(buf, base).part(buf, new);
         let n = end.at;
@@ -72,7 +65,7 @@ fn fold_into_create(
     let place = fields_place(work, at);
     let held = fields_at(work, place);
     let expected = fields_at(frame, from);
-    if same_bytes(expected, held) {
+    if expected == held {
         let front = part(work, at, place);
         let new = fields_at(frame, to);
         let rest = tag_at(work, fields_end(work, place));
@@ -175,7 +168,7 @@ fn coalesce(work: &[u8], at: usize, frame: &[u8], edit: Edit, buf: &mut [u8]) ->
     let operation = edit.operation;
     let mut role = [0u8; 34];
     let n = put_role(&mut role, frame, by);
-    if same_bytes(role_at(work, at + 1535), &role[..n]) {
+    if role_at(work, at + 1535) == &role[..n] {
         let deletes = is_owner(by);
         return fold_operation(work, at + 66, frame, operation, deletes, buf);
     }

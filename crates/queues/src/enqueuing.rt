@@ -169,10 +169,7 @@ fn target(work: &[u8], frame: &[u8], edit: Edit) -> Name
     if is_create(what) {
         return name;
     }
-    match state::alias(work, name) {
-        None => name,
-        Some(to) => to,
-    }
+    state::alias(work, name).unwrap_or(name)
 }
 
 // SyncState::enqueue

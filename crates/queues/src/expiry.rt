@@ -12,8 +12,12 @@ pub fn is_due(expiry: Expiry, now: i64) -> bool
     ensures { result ≡ is_some_and (λ at. le_z at now) (meant_expiry expiry) }
 {
     match expiry {
-        Expiry::Never => false,
-        Expiry::At(at) => frame::expired(at, now),
+        Expiry::Never => {
+            return false;
+        }
+        Expiry::At(at) => {
+            return frame::expired(at, now);
+        }
     }
 }
 
@@ -23,7 +27,7 @@ pub fn expired(work: &[u8], expiry: Expiry) -> bool
     ensures { Reads (λ s. is_some_and (λ now. is_some_and (λ at. le_z at now) (meant_expiry expiry)) s.now) work.now result }
 {
     match state::now(work) {
-        None => false,
         Some(now) => is_due(expiry, now),
+        None => false,
     }
 }

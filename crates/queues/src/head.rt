@@ -62,9 +62,8 @@ fn send_create(work: &[u8], out: &mut [u8], p: Progress, id: u64, name: Name) ->
 {
     match waiting::find_entry(work, name, 0) {
         Some(at) => {
-            let key = name.bytes;
             let event = event_at(work, at + 67);
-            let resource = machine::text_of(&key);
+            let resource = machine::text_of(&name.bytes);
             let pen = effects::create(machine::pen_of(p), out, id, resource, event);
             machine::sent(p, pen)
         }

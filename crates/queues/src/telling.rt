@@ -38,10 +38,9 @@ fn tell_applied(
 {
     match waiting::find_entry(work, name, j) {
         Some(at) => {
-            let key = id.bytes;
             let conflicts = conflicts_at(work, at + 1578);
             let refused = refused_at(work, at + 4650);
-            let edit = machine::text_of(&key);
+            let edit = machine::text_of(&id.bytes);
             let pen = effects::applied(machine::pen_of(p), out, edit, conflicts, refused);
             machine::sent(p, pen)
         }
@@ -122,10 +121,8 @@ pub fn notify(
 {
     let n = waiting::ids_count(work, name, j);
     let mut q = p;
-    let mut k = 0;
-    while k < n {
+    for k in 0..n {
         q = tell_id(work, out, q, name, j, k, ending, frame);
-        k += 1;
     }
     q
 }

@@ -1,6 +1,4 @@
 -- The entries behind a head, moved one at a time, against the definition; and remap. Assumes nothing.
-use Rattle.std.specs.Prelude.{Option, Some, None}
-use Rattle.model.specs.Edits.{Operation}
 use Prim.Native.Nat.{Ordering}
 use Prim.Native.Nat.{ℕ, zero, suc, ◌+◌, ◌-◌, ◌≤◌, ◌<◌}
 use native.Mathlib.Omega.{arith}
@@ -14,16 +12,16 @@ use Rattle.model.specs.Seam.{ResourceId}
 use Rattle.model.specs.Calls.{Notice, Effect}
 use Rattle.model.specs.State.{Map, Pending, Queue, SyncState, with_aliases}
 use Rattle.model.specs.Limits.{document01}
-use Rattle.model.specs.Maps.{is_some_and, when◌then◌else◌, same_text, by_name, insert, map, filter, is_empty}
+use Rattle.model.specs.Maps.{when◌then◌else◌, same_text, by_name, insert, map, filter, is_empty}
 use Rattle.model.specs.Machine.{Machine, Run, ok, with_state, within, tell, set_aliases, queue_of, set_queue, set_edits}
 use Rattle.model.specs.Sync.{is_create, move_to, move_behind, remap, start_edit, start_queue}
 use Rattle.model.proofs.Tables.{same_self, by_name_same, name_order}
 use Rattle.state.specs.Setters.{with_edits}
 use Rattle.state.specs.Contract.{Keeps, HasState, Reads, Edits, Tries}
 use Rattle.waiting.specs.Queues.{queue, put_queue, renamed, nth, moved}
+use Rattle.waiting.specs.declared.readers.OperationCase.{OperationCase}
+use Rattle.waiting.specs.declared.readers.OperationCase.TheVariants as Case
 use Rattle.waiting.specs.Reading.{case_of, operation_case_of}
-use Rattle.waiting.specs.declared.OperationCase.{OperationCase}
-use Rattle.waiting.specs.declared.OperationCase.TheVariants as case
 use Rattle.waiting.proofs.Bridge.{queue_is, set_queue_is}
 use Rattle.waiting.proofs.Splices.{rows_count}
 use Rattle.machine.specs.declared.Progress.{Progress}
@@ -31,7 +29,7 @@ use Rattle.machine.specs.Contract.{Does, Changes, Pushes}
 use Rattle.machine.specs.Steps.{tried_by}
 use Rattle.machine.proofs.Runs as runs
 use Rattle.machine.proofs.Steps as steps
-use Rattle.writes.specs.Moves.{creates, stays_at, one_moved, place_after, MovesOne, sweep, swept}
+use Rattle.writes.specs.Moves.{stays_at, one_moved, place_after, MovesOne, sweep, swept}
 use Rattle.writes.proofs.Inserts.{insert_there}
 use Rattle.writes.proofs.Moves.{form, sweep_form, at_form, queue_there, queue_other, put_some}
 
@@ -117,43 +115,33 @@ module _ (from to : ResourceId) (d : by_name from to ≡ Ordering.eq → ⊥) (d
 
 -- ---- the functions
 
-abbrev pub creates_case : OperationCase → Bool
-creates_case case.Create = true
-creates_case case.Update = false
-creates_case case.Delete = false
+-- whether a case is that of a create
+abbrev pub case_creates : Option OperationCase → Bool
+case_creates None = false
+case_creates (Some Case.Create) = true
+case_creates (Some Case.Update) = false
+case_creates (Some Case.Delete) = false
 
-abbrev pub creates_of : Option OperationCase → Bool
-creates_of None = false
-creates_of (Some k) = creates_case k
-
--- whether an entry creates, by its operation's case
-case_creates : (o : Operation) (k : OperationCase) → k ≡ case_of o → is_create o ≡ creates_case k
-unfolding is_create
-case_creates (Operation.Create e) k q = sym (ap creates_case q)
-case_creates (Operation.Update b u) k q = sym (ap creates_case q)
-case_creates Operation.Delete k q = sym (ap creates_case q)
-
-pub stays_is : (from : ResourceId) {w : List ℕ} (j : ℕ) {c : Option OperationCase} → Reads (λ s. operation_case_of (nth j (queue from s))) w c → Reads (stays_at from j) w (creates_of c)
-unfolding stays_at is_some_and operation_case_of
-stays_is from {w} j {c} R = record { is = λ s h. go (nth j (queue from s)) c (R.is s h) }
+stays_by : (x : Option Pending) (b : Bool) → b ≡ case_creates (operation_case_of x) → is_some_and (λ p. is_create p.edit.operation) x ≡ b
+unfolding operation_case_of is_some_and is_create
+stays_by None b e = sym e
+stays_by (Some p) b e = go p.edit.operation b e
   where
-    go : (x : Option Pending) (c : Option OperationCase) → c ≡ operation_case_of x → creates_of c ≡ is_some_and creates x
-    go None c e = ap (creates_of) e
-    go (Some p) c e = ap (creates_of) e ∙ sym (case_creates p.edit.operation (case_of p.edit.operation) refl)
+    go : (o : Operation) (b : Bool) → b ≡ case_creates (Some (case_of o)) → is_create o ≡ b
+    go (Operation.Create event) b e = sym e
+    go (Operation.Update base ours) b e = sym e
+    go Operation.Delete b e = sym e
 
-pub stays_as : (from : ResourceId) {w : List ℕ} (j : ℕ) {c d : Option OperationCase} → Reads (λ s. operation_case_of (nth j (queue from s))) w c → c ≡ d → Reads (stays_at from j) w (creates_of d)
-stays_as from {w} j R e = subst (λ x. Reads (stays_at from j) w (creates_of x)) e (stays_is from j R)
-
-pub one_stays : {from to : ResourceId} {w : List ℕ} {j : ℕ} {b : Bool} → Reads (stays_at from j) w b → b ≡ true → MovesOne from j to w (j + 1) w
-unfolding one_moved place_after when◌then◌else◌
-one_stays {from} {to} {w} {j} R z =
-    let t : (s : SyncState) → Keeps s w → stays_at from j s ≡ true = λ s h. sym (R.is s h) ∙ z in
+pub one_stays : {from to : ResourceId} {w : List ℕ} {j : ℕ} {c : Option OperationCase} → Reads (λ s. operation_case_of (nth j (queue from s))) w c → true ≡ case_creates c → MovesOne from j to w (j + 1) w
+unfolding stays_at one_moved place_after when◌then◌else◌
+one_stays {from} {to} {w} {j} {c} R z =
+    let t : (s : SyncState) → Keeps s w → stays_at from j s ≡ true = λ s h. stays_by (nth j (queue from s)) true (z ∙ ap case_creates (R.is s h)) in
     record { next = λ s h. rw (t s h); makes = λ s h. rw (t s h) h }
 
-pub one_moves : {from to : ResourceId} {w w' : List ℕ} {j : ℕ} {b : Bool} → Reads (stays_at from j) w b → b ≡ false → Edits (moved from j to) w w' → MovesOne from j to w j w'
-unfolding one_moved place_after when◌then◌else◌
+pub one_moves : {from to : ResourceId} {w w' : List ℕ} {j : ℕ} {c : Option OperationCase} → Reads (λ s. operation_case_of (nth j (queue from s))) w c → false ≡ case_creates c → Edits (moved from j to) w w' → MovesOne from j to w j w'
+unfolding stays_at one_moved place_after when◌then◌else◌
 one_moves {from} {to} {w} {j = j} R z E =
-    let t : (s : SyncState) → Keeps s w → stays_at from j s ≡ false = λ s h. sym (R.is s h) ∙ z in
+    let t : (s : SyncState) → Keeps s w → stays_at from j s ≡ false = λ s h. stays_by (nth j (queue from s)) false (z ∙ ap case_creates (R.is s h)) in
     record { next = λ s h. rw (t s h); makes = λ s h. rw (t s h) (E.makes s h) }
 
 -- no queue has more than all entries

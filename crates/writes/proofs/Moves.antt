@@ -11,16 +11,19 @@ use lib.ListN.{length, length-append}
 use Rattle.model.specs.Seam.{ResourceId}
 use Rattle.model.specs.Edits.{Operation}
 use Rattle.model.specs.State.{Map, Pending, Queue, SyncState}
-use Rattle.model.specs.Maps.{is_some_and, when◌then◌else◌, by_name, get, insert, map, filter}
+use Rattle.model.specs.Maps.{when◌then◌else◌, by_name, get, insert, map, filter}
 use Rattle.model.specs.Machine.{match◌none:◌some:◌}
 use Rattle.model.specs.Sync.{is_create}
 use Rattle.model.proofs.Tables.{name_order, get_insert, get_insert_other}
 use Rattle.state.specs.Setters.{with_edits}
 use Rattle.waiting.specs.Queues.{queue_in, put_in, queue, put_queue, nth, without, renamed, joined, moved}
-use Rattle.writes.specs.Moves.{creates, stays_at, one_moved, place_after, sweep}
+use Rattle.writes.specs.Moves.{stays_at, one_moved, place_after, sweep}
 use Rattle.writes.proofs.Inserts.{insert_over, insert_swap}
 
 -- ---- one entry of a list
+
+abbrev creates : Pending → Bool
+creates p = is_create p.edit.operation
 
 nth_mid : (K : Queue) (x : Pending) (R : Queue) → nth (length K) (K ++ (x ∷ R)) ≡ Some x
 unfolding nth

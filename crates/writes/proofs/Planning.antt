@@ -1,6 +1,6 @@
 -- `plan` and `plan_update`, branch by branch. Assumes nothing.
 use Rattle.std.specs.Prelude.{Option, Some, None}
-use Rattle.format.proofs.Options.{Some-injective, None-ne-Some, Some-ne-None}
+use Rattle.format.proofs.Options.{Some-injective, None-ne-Some}
 use Prim.Native.Nat.{ℕ, ◌+◌, ◌≤◌, ◌<◌}
 use native.Mathlib.Omega.{arith}
 use mathlib.Core.Path.{◌≡◌, refl, sym, ap, ◌∙◌, subst}
@@ -27,9 +27,9 @@ use Rattle.merge.specs.Given.{Begins}
 use Rattle.merge.proofs.Room.{event_fits}
 use Rattle.waiting.specs.Queues.{queue, put_queue, nth}
 use Rattle.waiting.specs.Entries.{SomeEntryAt, FindsEntry}
+use Rattle.waiting.specs.declared.readers.OperationCase.{OperationCase}
+use Rattle.waiting.specs.declared.readers.OperationCase.TheVariants as Case
 use Rattle.waiting.specs.Reading.{case_of, operation_case_of}
-use Rattle.waiting.specs.declared.OperationCase.{OperationCase}
-use Rattle.waiting.specs.declared.OperationCase.TheVariants as case
 use Rattle.waiting.proofs.Bridge.{queue_is, head_is, plan_is, set_queue_is}
 use Rattle.machine.specs.declared.Progress.{Progress}
 use Rattle.machine.specs.Contract.{Ran, Does}
@@ -96,44 +96,41 @@ merged_is w at {n = n} {b} {u} {t} {by} G l F e =
 pub begins_as : {s : List ℕ} (t : ProviderEvent) {u : ProviderEvent} → s ≡ event_f.enc t → Begins event_f (event_f.enc t) u → Begins event_f s u
 begins_as t e B = record { fits = B.fits; rest = B.rest; bytes = e ∙ B.bytes }
 
-pub head_case : (r : ResourceId) {w : List ℕ} {c k : Option OperationCase} → HeadCase r w c → c ≡ k → HeadCase r w k
+pub head_case : (r : ResourceId) {w : List ℕ} {c k : ℕ} → HeadCase r w c → c ≡ k → HeadCase r w k
 head_case r {w} C e = subst (HeadCase r w) e C
 
 -- ---- the head
 
-head_of : (r : ResourceId) {w : List ℕ} {k : OperationCase} (H : HasState w) → HeadCase r w (Some k) → (p : Pending) × (Reads (λ s. nth 0 (queue r s)) w (Some p)) × (k ≡ case_of p.edit.operation)
+head_of : (r : ResourceId) {w : List ℕ} (k : OperationCase) (H : HasState w) → HeadCase r w (Some k) → (p : Pending) × (Reads (λ s. nth 0 (queue r s)) w (Some p)) × (k ≡ case_of p.edit.operation)
 unfolding operation_case_of
-head_of r {w} {k} H C = go (nth 0 (queue r H.state)) (reads_any (λ s. nth 0 (queue r s)) H) (C.is H.state H.keeps)
+head_of r {w} k H C = go (nth 0 (queue r H.state)) (reads_any (λ s. nth 0 (queue r s)) H) (C.is H.state H.keeps)
   where
     go : (x : Option Pending) → Reads (λ s. nth 0 (queue r s)) w x → Some k ≡ operation_case_of x → (p : Pending) × (Reads (λ s. nth 0 (queue r s)) w (Some p)) × (k ≡ case_of p.edit.operation)
-    go None X e = absurd (Some-ne-None k e)
-    go (Some p) X e = (p, X, Some-injective _ _ e)
+    go None X e = absurd (None-ne-Some k (sym e))
+    go (Some p) X e = (p, X, Some-injective k (case_of p.edit.operation) e)
 
-create_op : (o : Operation) → case.Create ≡ case_of o → (e : ProviderEvent) × (o ≡ Operation.Create e)
+-- cases told apart by a number
+abbrev case_number : OperationCase → ℕ
+case_number Case.Create = 0
+case_number Case.Update = 1
+case_number Case.Delete = 2
+
+no_case : {a b : OperationCase} → a ≡ b → (case_number a ≡ case_number b → ⊥) → ⊥
+no_case e k = k (ap case_number e)
+
+create_op : (o : Operation) → Case.Create ≡ case_of o → (e : ProviderEvent) × (o ≡ Operation.Create e)
 create_op (Operation.Create e) z = (e, refl)
-create_op (Operation.Update b u) z = absurd (apart z)
-  where
-    apart : case.Create ≡ case.Update → ⊥
-    apart e = cc
-create_op Operation.Delete z = absurd (apart z)
-  where
-    apart : case.Create ≡ case.Delete → ⊥
-    apart e = cc
+create_op (Operation.Update b u) z = absurd (no_case z (λ n. omega arith))
+create_op Operation.Delete z = absurd (no_case z (λ n. omega arith))
 
-update_op : (o : Operation) → case.Update ≡ case_of o → (b : NormalizedEvent) × (u : NormalizedEvent) × (o ≡ Operation.Update b u)
-update_op (Operation.Create e) z = absurd (apart z)
-  where
-    apart : case.Update ≡ case.Create → ⊥
-    apart e = cc
+update_op : (o : Operation) → Case.Update ≡ case_of o → (b : NormalizedEvent) × (u : NormalizedEvent) × (o ≡ Operation.Update b u)
+update_op (Operation.Create e) z = absurd (no_case z (λ n. omega arith))
 update_op (Operation.Update b u) z = (b, u, refl)
-update_op Operation.Delete z = absurd (apart z)
-  where
-    apart : case.Update ≡ case.Delete → ⊥
-    apart e = cc
+update_op Operation.Delete z = absurd (no_case z (λ n. omega arith))
 
-delete_op : (o : Operation) → case.Delete ≡ case_of o → o ≡ Operation.Delete
-delete_op (Operation.Create e) z = cc
-delete_op (Operation.Update b u) z = cc
+delete_op : (o : Operation) → Case.Delete ≡ case_of o → o ≡ Operation.Delete
+delete_op (Operation.Create e) z = absurd (no_case z (λ n. omega arith))
+delete_op (Operation.Update b u) z = absurd (no_case z (λ n. omega arith))
 delete_op Operation.Delete z = refl
 
 abbrev on_front : ResourceId → Option ProviderEvent → Option Pending → Machine → Run
@@ -148,9 +145,9 @@ module _ (r : ResourceId) {w o w' o' : List ℕ} {p q : Progress} where
   unfolding match◌none:◌some:◌
   plan_op th e a X k d = plan_as th (Some e) X (runs.is (on_front r th (Some e)) (λ m. ap (λ (b : Operation). plan r e b th m) (sym k)) d)
 
-pub plan_nothing : (r : ResourceId) {w o : List ℕ} {p : Progress} (th : Option ProviderEvent) {c : Option OperationCase} → HasState w → HeadCase r w c → c ≡ None → Does (plan_head r th) w o p p w o
+pub plan_nothing : (r : ResourceId) {w o : List ℕ} {p : Progress} (th : Option ProviderEvent) → HasState w → HeadCase r w None → Does (plan_head r th) w o p p w o
 unfolding operation_case_of match◌none:◌some:◌
-plan_nothing r {w} {o} {p} th {c} H C z = go (nth 0 (queue r H.state)) (reads_any (λ s. nth 0 (queue r s)) H) (sym z ∙ C.is H.state H.keeps)
+plan_nothing r {w} {o} {p} th H C = go (nth 0 (queue r H.state)) (reads_any (λ s. nth 0 (queue r s)) H) (C.is H.state H.keeps)
   where
     go : (u : Option Pending) → Reads (λ s. nth 0 (queue r s)) w u → None ≡ operation_case_of u → Does (plan_head r th) w o p p w o
     go None X e = plan_as r th None X runs.nothing
@@ -162,9 +159,9 @@ plan_missing r th F e = plan_as r th None (record { is = λ s h. sym (no_entry r
 
 -- ---- a delete
 
-module _ (r : ResourceId) {w : List ℕ} (H : HasState w) (C : HeadCase r w (Some case.Delete)) where
-  abbrev deletes : (x : Pending) × (Reads (λ s. nth 0 (queue r s)) w (Some x)) × (case.Delete ≡ case_of x.edit.operation)
-  deletes = head_of r H C
+module _ (r : ResourceId) {w : List ℕ} (H : HasState w) (C : HeadCase r w (Some Case.Delete)) where
+  abbrev deletes : (x : Pending) × (Reads (λ s. nth 0 (queue r s)) w (Some x)) × (Case.Delete ≡ case_of x.edit.operation)
+  deletes = head_of r Case.Delete H C
 
   pub plan_deletes : {o w' o' : List ℕ} {p q : Progress} (t : ProviderEvent) → Does (request (Purpose.EditWrite r) (Request.Delete r t.revision)) w o p q w' o' → Does (plan_head r (Some t)) w o p q w' o'
   unfolding plan
@@ -176,20 +173,20 @@ module _ (r : ResourceId) {w : List ℕ} (H : HasState w) (C : HeadCase r w (Som
 
 -- ---- an update
 
-pub update_gone : (r : ResourceId) {w o w' o' : List ℕ} {p q : Progress} (H : HasState w) → HeadCase r w (Some case.Update) → Does (finish r (Some Rejection.Gone)) w o p q w' o' → Does (plan_head r None) w o p q w' o'
+pub update_gone : (r : ResourceId) {w o w' o' : List ℕ} {p q : Progress} (H : HasState w) → HeadCase r w (Some Case.Update) → Does (finish r (Some Rejection.Gone)) w o p q w' o' → Does (plan_head r None) w o p q w' o'
 unfolding plan
 update_gone r H C d =
-    let h = head_of r H C in
+    let h = head_of r Case.Update H C in
     let k = update_op h.0.edit.operation h.2 in
     plan_op r None h.0 (Operation.Update k.0 k.1) h.1 k.2 (runs.is (plan r h.0 (Operation.Update k.0 k.1) None) (λ m. refl) d)
 
-module _ (r : ResourceId) {w : List ℕ} {place : Option ℕ} (at : ℕ) (H : HasState w) (C : HeadCase r w (Some case.Update)) (F : FindsEntry r 0 w place) (f : place ≡ Some at) where
+module _ (r : ResourceId) {w : List ℕ} {place : Option ℕ} (at : ℕ) (H : HasState w) (C : HeadCase r w (Some Case.Update)) (F : FindsEntry r 0 w place) (f : place ≡ Some at) where
   abbrev entry : SomeEntryAt r 0 w H.state at
   entry = entry_found r F f H.state H.keeps
 
   update_is : (b : NormalizedEvent) × (u : NormalizedEvent) × (entry.entry.edit.operation ≡ Operation.Update b u)
   unfolding operation_case_of
-  update_is = update_op entry.entry.edit.operation (Some-injective _ _ (C.is H.state H.keeps ∙ ap operation_case_of entry.is.got))
+  update_is = update_op entry.entry.edit.operation (Some-injective Case.Update (case_of entry.entry.edit.operation) (C.is H.state H.keeps ∙ ap operation_case_of entry.is.got))
 
   pub entry_room : at + 5940 ≤ 55643
   entry_room = entry.is.room
@@ -227,13 +224,13 @@ created_op (Some p) e k = (p, refl, go p.edit.operation k)
     go (Operation.Update b u) k = absurd (None-ne-Some e (sym k))
     go Operation.Delete k = absurd (None-ne-Some e (sym k))
 
-module _ (r : ResourceId) {w : List ℕ} {place : Option ℕ} (at : ℕ) (H : HasState w) (F : FindsEntry r 0 w place) where
-  pub found_room : place ≡ Some at → at + 5940 ≤ 55643
+module _ (r : ResourceId) {w : List ℕ} {place : Option ℕ} (H : HasState w) (F : FindsEntry r 0 w place) where
+  pub found_room : {at : ℕ} → place ≡ Some at → at + 5940 ≤ 55643
   found_room f = (entry_found r F f H.state H.keeps).is.room
 
-  pub fields_found : place ≡ Some at → {th : List ℕ} {b : Bool} → ((e t : ProviderEvent) → Begins event_f (operation_part w at) e → Begins event_f th t → b ≡ same fields_f t.fields e.fields)
+  pub fields_found : (at : ℕ) → place ≡ Some at → {th : List ℕ} {b : Bool} → ((e t : ProviderEvent) → Begins event_f (operation_part w at) e → Begins event_f th t → b ≡ same fields_f t.fields e.fields)
       → (e t : ProviderEvent) → Reads (λ s. created (nth 0 (queue r s))) w (Some e) → Begins event_f th t → b ≡ same fields_f t.fields e.fields
-  fields_found f D e t R B =
+  fields_found at f D e t R B =
       let E = entry_found r F f H.state H.keeps in
       let k = created_op (Some E.entry) e (R.is H.state H.keeps ∙ ap created E.is.got) in
       let g : E.entry.edit.operation ≡ Operation.Create e = ap (λ (x : Pending). x.edit.operation) (Some-injective E.entry k.0 k.1) ∙ k.2 in
@@ -244,9 +241,9 @@ module _ (r : ResourceId) {w : List ℕ} {place : Option ℕ} (at : ℕ) (H : Ha
       let k = created_op (nth 0 (queue r H.state)) e (R.is H.state H.keeps) in
       absurd (None-ne-Some k.0 (sym (no_entry r F f H.state H.keeps) ∙ k.1))
 
-module _ (r : ResourceId) {w : List ℕ} (H : HasState w) (C : HeadCase r w (Some case.Create)) where
-  abbrev front : (x : Pending) × (Reads (λ s. nth 0 (queue r s)) w (Some x)) × (case.Create ≡ case_of x.edit.operation)
-  front = head_of r H C
+module _ (r : ResourceId) {w : List ℕ} (H : HasState w) (C : HeadCase r w (Some Case.Create)) where
+  abbrev front : (x : Pending) × (Reads (λ s. nth 0 (queue r s)) w (Some x)) × (Case.Create ≡ case_of x.edit.operation)
+  front = head_of r Case.Create H C
 
   abbrev making : (e : ProviderEvent) × (front.0.edit.operation ≡ Operation.Create e)
   making = create_op front.0.edit.operation front.2

@@ -10,8 +10,8 @@ use Rattle.model.specs.Formats.{fields_f}
 use Rattle.model.specs.Sync.{change_front, head, plan, finish}
 use Rattle.state.specs.Contract.{Reads}
 use Rattle.waiting.specs.Queues.{queue, put_queue, planned, nth}
+use Rattle.waiting.specs.declared.readers.OperationCase.{OperationCase}
 use Rattle.waiting.specs.Reading.{operation_case_of}
-use Rattle.waiting.specs.declared.OperationCase.{OperationCase}
 use Rattle.frame.specs.Read.{skips, start}
 use Rattle.comparison.specs.Bytes.{span}
 use Rattle.merge.specs.Given.{Given}

@@ -17,12 +17,11 @@ ghost use Rattle.state.specs.Contract.{HasState, Reads, Edits};
 ghost use Rattle.state.specs.Values.{name_of, Named};
 ghost use Rattle.machine.specs.Contract.{Does};
 ghost use Rattle.merge.specs.Given.{Begins};
-ghost use Rattle.waiting.specs.declared.OperationCase.TheVariants as case;
 ghost use Rattle.writes.specs.Plans.{operation_part, ours_part, role_part, GivenAt, HasGiven, Filled, with_merge, send_merged, HeadCase, plan_head};
 ghost use Rattle.records.specs.Events.{IsEvent};
 ghost use Rattle.waiting.specs.Queues.{queue, nth};
 ghost use Rattle.queues.specs.Heads.{created};
-ghost use Rattle.writes.specs.Moves.{MovesOne, stays_at, swept};
+ghost use Rattle.writes.specs.Moves.{MovesOne, swept};
 
 use effects::Refusal;
 use frame::Cursor;
@@ -209,31 +208,19 @@ fn same_fields(work: &[u8], at: usize, theirs: &[u8]) -> bool
 
 // ---- SyncState::remap
 
-// Whether entry j creates, and so stays.
-fn stays(work: &[u8], from: Name, j: usize) -> bool
-    requires has_state { HasState work.now }
-    requires named { Named from.bytes }
-    ensures { Reads (stays_at (name_of from.bytes) j) work.now result }
-{
-    match waiting::operation_case(work, from, j) {
-        Some(OperationCase::Create) => true,
-        Some(OperationCase::Update) => false,
-        Some(OperationCase::Delete) => false,
-        None => false,
-    }
-}
-
 // Moves the j-th entry of one queue to another unless it creates; where the next one stands.
 fn move_one(work: &mut [u8], from: Name, j: usize, to: Name) -> usize
     requires has_state { HasState work.old }
     requires named { (Named from.bytes) × (Named to.bytes) × (j < 6) }
     ensures { MovesOne (name_of from.bytes) j (name_of to.bytes) work.old result work.new }
 {
-    if stays(work, from, j) {
-        return j + 1;
+    match waiting::operation_case(work, from, j) {
+        Some(OperationCase::Create) => j + 1,
+        _ => {
+            waiting::move_entry(work, from, j, to);
+            j
+        }
     }
-    waiting::move_entry(work, from, j, to);
-    j
 }
 
 // Moves the entries behind the head that do not create.
@@ -337,7 +324,7 @@ fn plan_update_at(
 
 fn plan_update(work: &mut [u8], out: &mut [u8], p: Progress, name: Name, theirs: &[u8]) -> Progress
     requires has_state { HasState work.old }
-    requires named { (Named name.bytes) × (IsEvent theirs.now) × (HeadCase (name_of name.bytes) work.old (Some case.Update)) }
+    requires named { (Named name.bytes) × (IsEvent theirs.now) × (HeadCase (name_of name.bytes) work.old (Some OperationCase.Update)) }
     ensures { (t : ProviderEvent) → event_f.Ok t → theirs.now ≡ event_f.enc t → Does (plan_head (name_of name.bytes) (Some t)) work.old out.old p result work.new out.new }
 {
     match waiting::find_entry(work, name, 0) {
@@ -360,7 +347,7 @@ fn same_as_head(work: &[u8], name: Name, theirs: &[u8]) -> bool
 
 fn plan_create(work: &mut [u8], out: &mut [u8], p: Progress, name: Name, theirs: &[u8]) -> Progress
     requires has_state { HasState work.old }
-    requires named { (Named name.bytes) × (IsEvent theirs.now) × (HeadCase (name_of name.bytes) work.old (Some case.Create)) }
+    requires named { (Named name.bytes) × (IsEvent theirs.now) × (HeadCase (name_of name.bytes) work.old (Some OperationCase.Create)) }
     ensures { (t : ProviderEvent) → event_f.Ok t → theirs.now ≡ event_f.enc t → Does (plan_head (name_of name.bytes) (Some t)) work.old out.old p result work.new out.new }
 {
     if queues::looks_up(work, name) {
@@ -395,20 +382,6 @@ pub fn plan_found(
     }
 }
 
-// An edit that creates, where nothing was found: it is written, unless it has collided.
-fn create_gone(work: &mut [u8], out: &mut [u8], p: Progress, name: Name) -> Progress
-    requires has_state { HasState work.old }
-    requires named { (Named name.bytes) × (HeadCase (name_of name.bytes) work.old (Some case.Create)) }
-    ensures { Does (plan_head (name_of name.bytes) None) work.old out.old p result work.new out.new }
-{
-    if waiting::is_collided(work, name, 0) {
-        let ending = Ending::Rejected(Refusal::Exists);
-        queues::finish(work, out, p, name, ending, b"")
-    } else {
-        queues::request_create(work, out, p, name)
-    }
-}
-
 // The same, where nothing was found.
 pub fn plan_gone(work: &mut [u8], out: &mut [u8], p: Progress, name: Name) -> Progress
     requires has_state { HasState work.old }
@@ -416,12 +389,18 @@ pub fn plan_gone(work: &mut [u8], out: &mut [u8], p: Progress, name: Name) -> Pr
     ensures { Does (plan_head (name_of name.bytes) None) work.old out.old p result work.new out.new }
 {
     match waiting::operation_case(work, name, 0) {
-        Some(OperationCase::Create) => create_gone(work, out, p, name),
+        Some(OperationCase::Create) => {
+            if waiting::is_collided(work, name, 0) {
+                let ending = Ending::Rejected(Refusal::Exists);
+                return queues::finish(work, out, p, name, ending, b"");
+            }
+            queues::request_create(work, out, p, name)
+        }
         Some(OperationCase::Update) => {
             let ending = Ending::Rejected(Refusal::Gone);
             queues::finish(work, out, p, name, ending, b"")
         }
-        Some(OperationCase::Delete) => { queues::finish(work, out, p, name, Ending::Applied, b"") }
+        Some(OperationCase::Delete) => queues::finish(work, out, p, name, Ending::Applied, b""),
         None => p,
     }
 }

@@ -1,4 +1,4 @@
-use Rattle.std.specs.Prelude.{false}
+use mathlib.Core.Bool.{false}
 use Rattle.machine.proofs.Steps as steps
 use Rattle.machine.proofs.doubtful.Goals as goal
 
@@ -9,4 +9,4 @@ pub returns-in-None : goal.returns-in-None
 returns-in-None c = steps.by_learned c.args.id _ false c.learned_all.ensures c.if-id-learned_all.false c.learned.ensures (steps.never c.args.id c.in-None.is)
 
 pub returns-in-Some : goal.returns-in-Some
-returns-in-Some c = steps.by_learned c.args.id _ _ c.learned_all.ensures c.if-id-learned_all.false c.learned.ensures (steps.since c.args.id c.in-Some.since c.in-Some.is)
+returns-in-Some c = steps.by_learned c.args.id _ _ c.learned_all.ensures c.if-id-learned_all.false c.learned.ensures (steps.since c.args.id c.in-Some.n c.in-Some.is)

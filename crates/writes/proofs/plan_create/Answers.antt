@@ -1,5 +1,4 @@
 use Rattle.writes.proofs.Planning as planning
-use mathlib.Core.Path.{refl}
 use Rattle.writes.proofs.plan_create.Goals as goal
 
 pub finish-requires : goal.finish-requires

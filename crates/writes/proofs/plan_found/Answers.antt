@@ -1,6 +1,7 @@
-use Rattle.std.proofs.Common.{Some, ap, ◌∙◌}
-use Rattle.writes.proofs.Entries as entries
+use Rattle.std.specs.Prelude.{Some}
+use mathlib.Core.Path.{ap, ◌∙◌}
 use Rattle.writes.proofs.Planning as planning
+use Rattle.writes.proofs.Entries as entries
 use Rattle.writes.proofs.plan_found.Goals as goal
 
 pub plan_create-requires : goal.plan_create-requires
@@ -13,4 +14,4 @@ pub returns-in-Some-Delete : goal.returns-in-Some-Delete
 returns-in-Some-Delete c = λ t k e. planning.plan_deletes _ c.requires.has_state (planning.head_case _ c.operation_case.ensures (c.in-Some-Delete.is ∙ ap Some c.in-Some-Delete.field-0-is)) t (c.request_delete.ensures _ (c.revision_of.ensures t (entries.begins_alone _ t k e)))
 
 pub returns-in-None : goal.returns-in-None
-returns-in-None c = λ t k e. planning.plan_nothing _ (Some t) c.requires.has_state c.operation_case.ensures c.in-None.is
+returns-in-None c = λ t k e. planning.plan_nothing _ (Some t) c.requires.has_state (planning.head_case _ c.operation_case.ensures c.in-None.is)

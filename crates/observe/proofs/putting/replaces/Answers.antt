@@ -3,9 +3,7 @@ use native.Mathlib.Omega.{arith}
 use Rattle.observe.proofs.putting.replaces.Goals as goal
 
 pub overflow_add-at : goal.overflow_add-at
-overflow_add-at c =
-    let h = observing.held_room _ c.args.work.now _ _ c.requires.has_state c.find_record.ensures c.in-Some.is in
-    omega arith
+overflow_add-at c = omega (arith, observing.held_room _ c.args.work.now _ _ c.requires.has_state c.find_record.ensures c.in-Some.is)
 
 pub version_at-held-requires : goal.version_at-held-requires
 version_at-held-requires c = observing.held_stands _ c.args.work.now _ _ c.requires.has_state c.find_record.ensures c.in-Some.is

@@ -20,5 +20,5 @@ remove-requires c = record { has_state = observing.still c.observe_read-q.ensure
 pub returns-then-listed : goal.returns-then-listed
 returns-then-listed c = answering.read_listed c.args.id _ _ c.doubtful.ensures c.if-doubtful.false c.listed_unread-listed.ensures c.observe_read-q.ensures c.if-listed.true c.remove.ensures
 
-pub returns : goal.returns
-returns c = answering.read_unlisted c.args.id _ _ c.doubtful.ensures c.if-doubtful.false c.listed_unread-listed.ensures c.observe_read-q.ensures c.if-listed.false
+pub returns-else-listed : goal.returns-else-listed
+returns-else-listed c = answering.read_unlisted c.args.id _ _ c.doubtful.ensures c.if-doubtful.false c.listed_unread-listed.ensures c.observe_read-q.ensures c.if-listed.false

@@ -23,7 +23,7 @@ applied-pen-requires c = let L : length c.args.id.bytes ≡ 33 = search rules in
     parts.text_short _ _ c.text_of-edit.ensures L
 
 pub returns-in-Some : goal.returns-in-Some
-returns-in-Some c = notices.applied_sent c.args.j (name_of c.args.name.bytes) c.args.work.now c.in-Some.at c.find_entry.result c.find_entry.ensures (name_of c.args.id.bytes) c.in-Some.is c.conflicts_at-conflicts.ensures c.refused_at-refused.ensures c.text_of-edit.ensures c.pen_of.ensures c.applied-pen.ensures c.sent.ensures
+returns-in-Some c = notices.applied_sent c.args.j (name_of c.args.name.bytes) c.args.work.now c.find_entry.result c.find_entry.ensures c.in-Some.at (name_of c.args.id.bytes) c.in-Some.is c.conflicts_at-conflicts.ensures c.refused_at-refused.ensures c.text_of-edit.ensures c.pen_of.ensures c.applied-pen.ensures c.sent.ensures
 
 pub returns-in-None : goal.returns-in-None
-returns-in-None c = notices.applied_none c.args.j (name_of c.args.name.bytes) c.args.work.now 0 c.find_entry.result c.find_entry.ensures (name_of c.args.id.bytes) c.args.out.now c.args.p c.in-None.is
+returns-in-None c = notices.applied_none c.args.j (name_of c.args.name.bytes) c.args.work.now c.find_entry.result c.find_entry.ensures (name_of c.args.id.bytes) c.args.out.now c.args.p c.in-None.is
