@@ -1,17 +1,16 @@
 -- The queue at a place in the order of their resources. Assumes nothing.
-use Rattle.std.specs.Prelude.{Option, Some, None}
-use Rattle.format.proofs.Options.{None-ne-Some}
 use Prim.Native.Nat.{ℕ, zero, suc, ◌+◌, ◌≤◌, ◌<◌, Ordering}
 use native.Mathlib.Nat.{not-suc-le-zero, le_of_suc-le-suc}
 use native.Mathlib.Omega.{arith}
 use mathlib.Core.Path.{◌≡◌, refl, sym, ap, ap₂, ◌∙◌, subst}
 use mathlib.Core.List.{List, [], ◌∷◌}
+use mathlib.Core.Option.{none, some, none-ne-some}
 use lib.ListN.{length, take, drop, get_or}
 use lib.Dec.{T}
 use Rattle.format.specs.Format.{All, text as text-format}
 use Rattle.tables.specs.Table.{flat, text}
-
-
+use Rattle.tables.specs.declared.Place.{Place}
+use Rattle.tables.specs.declared.Place.TheVariants.{Found, Missing}
 use Rattle.tables.proofs.Laws as tables
 use Rattle.lent.specs.Lent.{part}
 use Rattle.model.specs.Seam.{ResourceId}
@@ -38,27 +37,27 @@ use Rattle.access.proofs.Laws.{nth_past, byte_in}
 -- the entry at a place in a map whose keys rise: it is found by its key
 record Placed (i : ℕ) (m : Map ResourceId Queue) : Type 0 where
   e : ResourceId × Queue
-  there : nth i m ≡ Some e
+  there : nth i m ≡ some e
   key : get_or (keys m) i [] ≡ e.0
-  got : get by_name e.0 m ≡ Some e.1
+  got : get by_name e.0 m ≡ some e.1
   fits : QueueFits document01 e
 
 keys_of : (e : ResourceId × Queue) (m : Map ResourceId Queue) → T (rising by_name (keys (e ∷ m))) → T (rising by_name (e.0 ∷ keys m))
 unfolding keys map
 keys_of e m t = t
 
-got_later : (e x : ResourceId × Queue) (m : Map ResourceId Queue) → T (rising by_name (e.0 ∷ keys m)) → get by_name x.0 m ≡ Some x.1 → get by_name x.0 (e ∷ m) ≡ Some x.1
+got_later : (e x : ResourceId × Queue) (m : Map ResourceId Queue) → T (rising by_name (e.0 ∷ keys m)) → get by_name x.0 m ≡ some x.1 → get by_name x.0 (e ∷ m) ≡ some x.1
 unfolding get by
 got_later e x m t g = go (by_name x.0 e.0) refl
   where
-    go : (o : Ordering) → by_name x.0 e.0 ≡ o → by o None (Some e.1) (get by_name x.0 m) ≡ Some x.1
-    go Ordering.lt o = absurd (None-ne-Some x.1 (sym (get_below by_name name_order x.0 e.0 m o t) ∙ g))
+    go : (o : Ordering) → by_name x.0 e.0 ≡ o → by o none (some e.1) (get by_name x.0 m) ≡ some x.1
+    go Ordering.lt o = absurd (none-ne-some x.1 (sym (get_below by_name name_order x.0 e.0 m o t) ∙ g))
     go Ordering.eq o =
         let j : x.0 ≡ e.0 = name_order.same x.0 e.0 o in
-        absurd (None-ne-Some x.1 (sym (get_first by_name name_order e.0 m t) ∙ ap (λ (k : ResourceId). get by_name k m) (sym j) ∙ g))
+        absurd (none-ne-some x.1 (sym (get_first by_name name_order e.0 m t) ∙ ap (λ (k : ResourceId). get by_name k m) (sym j) ∙ g))
     go Ordering.gt o = g
 
-got_first : (e : ResourceId × Queue) (m : Map ResourceId Queue) → get by_name e.0 (e ∷ m) ≡ Some e.1
+got_first : (e : ResourceId × Queue) (m : Map ResourceId Queue) → get by_name e.0 (e ∷ m) ≡ some e.1
 unfolding get by
 got_first e m = rw (name_order.self e.0)
 
@@ -71,7 +70,7 @@ placed (suc i) (e ∷ m) t a h =
     let P = placed i m (rising_tail by_name name_order e.0 m r) a.1 (le_of_suc-le-suc h) in
     record { e = P.e; there = P.there; key = P.key; got = got_later e P.e m r P.got; fits = P.fits }
 
-pub no_queue : (w names : List ℕ) (n i : ℕ) → ListsResources w n names → n ≤ i → Reads (λ s. queue_count (nth i s.edits)) w None
+pub no_queue : (w names : List ℕ) (n i : ℕ) → ListsResources w n names → n ≤ i → Reads (λ s. queue_count (nth i s.edits)) w none
 unfolding queue_count
 no_queue w names n i L h = record {
   is = λ s K.
@@ -111,26 +110,26 @@ module _ {w names b : List ℕ} {n i : ℕ} (L : ListsResources w n names) (h : 
   queue_named H = (name H.keeps).0
 
   -- a queue has a head
-  pub has_head : HasState w → FindsEntry (name_of b) 0 w None → ⊥
+  pub has_head : HasState w → (p : ℕ) → FindsEntry (name_of b) 0 w (Missing p) → ⊥
   unfolding EntryIs queues.nth
-  has_head H F = go (here K).e.1 refl (here K).fits.some (ap (queues.nth 0) (sym (queue_is K)) ∙ F.is H.state K)
+  has_head H p F = go (here K).e.1 refl (here K).fits.some (ap (queues.nth 0) (sym (queue_is K)) ∙ F.is H.state K)
     where
       K : Keeps H.state w
       K = H.keeps
 
-      go : (q : Queue) → (here K).e.1 ≡ q → 0 < length (here K).e.1 → queues.nth 0 (here K).e.1 ≡ None → ⊥
+      go : (q : Queue) → (here K).e.1 ≡ q → 0 < length (here K).e.1 → queues.nth 0 (here K).e.1 ≡ none → ⊥
       go [] e l g = let k = ap length e in omega arith
-      go (x ∷ q) e l g = None-ne-Some x (sym g ∙ ap (queues.nth 0) e)
+      go (x ∷ q) e l g = none-ne-some x (sym g ∙ ap (queues.nth 0) e)
 
-  pub head_room : HasState w → (at : ℕ) → FindsEntry (name_of b) 0 w (Some at) → at + pending_width document01 ≤ state_length
+  pub head_room : HasState w → (at : ℕ) → FindsEntry (name_of b) 0 w (Found at) → at + pending_width document01 ≤ state_length
   unfolding EntryIs document01
   head_room H at F = let r = (F.is H.state H.keeps).is.room in omega arith
 
-  pub queue_read : (at size count : ℕ) → FindsEntry (name_of b) 0 w (Some at) → size ≡ get_or w at 0 → Reads (λ s. length (queue (name_of b) s)) w count
-      → Reads (λ s. queue_count (nth i s.edits)) w (Some (part (at + 1) size w, count))
+  pub queue_read : (at size count : ℕ) → FindsEntry (name_of b) 0 w (Found at) → size ≡ get_or w at 0 → Reads (λ s. length (queue (name_of b) s)) w count
+      → Reads (λ s. queue_count (nth i s.edits)) w (some (part (at + 1) size w, count))
   unfolding EntryIs queue_count text text-format max_id pending_slot padded document01
   queue_read at size count F e R = record {
-    is = λ s K. ap₂ (λ (x : List ℕ) (y : ℕ). Some (x, y)) (text_at s K (F.is s K)) (R.is s K ∙ ap length (queue_is K)) ∙ sym (ap queue_count (here K).there);
+    is = λ s K. ap₂ (λ (x : List ℕ) (y : ℕ). some (x, y)) (text_at s K (F.is s K)) (R.is s K ∙ ap length (queue_is K)) ∙ sym (ap queue_count (here K).there);
   }
     where
       text_at : (s : SyncState) (K : Keeps s w) → SomeEntryAt (name_of b) 0 w s at → part (at + 1) size w ≡ (here K).e.0
@@ -141,5 +140,5 @@ module _ {w names b : List ℕ} {n i : ℕ} (L : ListsResources w n names) (h : 
           ap (λ (k : ℕ). take k (drop (at + 1) w)) z ∙ tables.field_of w 5940 at 1 (length r) (omega arith) ∙ ap (λ (x : List ℕ). take (length r) (drop 1 x)) S.is.slot
           ∙ slot_text r S.entry ∙ name_is K
 
-pub found_at : {r : ResourceId} {w : List ℕ} {place place' : Option ℕ} → FindsEntry r 0 w place → place ≡ place' → FindsEntry r 0 w place'
-found_at {r = r} {w = w} F e = subst (λ (p : Option ℕ). FindsEntry r 0 w p) e F
+pub found_at : {r : ResourceId} {w : List ℕ} {place place' : Place} → FindsEntry r 0 w place → place ≡ place' → FindsEntry r 0 w place'
+found_at {r = r} {w = w} F e = subst (λ (p : Place). FindsEntry r 0 w p) e F

@@ -1,7 +1,8 @@
 // What a state says of itself, for any lent bytes: no function here asks anything of them.
 #![tactic(auto)]
 
-ghost use Rattle.std.specs.Prelude.{◌≡◌, false, ◌+◌, ◌≤◌, ◌<◌, length, take, drop, get_or, None};
+ghost use Rattle.std.specs.Prelude.{◌≡◌, false, ◌+◌, ◌≤◌, ◌<◌, length, take, drop, get_or};
+ghost use Rattle.std.proofs.Math.Option.{none};
 ghost use Rattle.tables.specs.Table.{Holds, slots_of};
 ghost use Rattle.lent.specs.Lent.{part};
 ghost use Rattle.frame.specs.Read.{start, skips, kept};
@@ -9,9 +10,13 @@ ghost use Rattle.model.specs.Maps.{keys};
 ghost use Rattle.model.specs.Formats.{event_f};
 ghost use Rattle.model.specs.Demands.{waiting_count};
 ghost use Rattle.state.specs.Contract.{HasState, Reads};
+ghost use Rattle.state.specs.Values.{number_in};
 ghost use Rattle.wellformed.specs.Tests.{count_slots};
 ghost use Rattle.access.specs.Answers.{Checked, Answers, Freshened, nth, numbered, record_bytes, queue_count, is_of};
 
+use spans::Order;
+use state::Numbered;
+use tables::Place;
 use wellformed::STATE;
 
 pub const REFUSED_LENGTH: u8 = 1;
@@ -62,7 +67,18 @@ fn is_of(slot: &[u8], resource: &[u8]) -> bool
     ensures { result ≡ is_of resource.now slot.now }
 {
     let end = tables::text_len(slot) + 1;
-    &slot[1..end] == resource
+    let o = spans::compare(&slot[1..end], resource);
+    match o {
+        Order::Less => {
+            return false;
+        }
+        Order::Equal => {
+            return true;
+        }
+        Order::Greater => {
+            return false;
+        }
+    }
 }
 
 fn is_of_at(entries: &[u8], at: usize, resource: &[u8]) -> bool
@@ -128,18 +144,18 @@ pub struct NumberAnswer {
     pub number: u64,
 }
 
-fn flight(state: &[u8], i: usize) -> Option<u64>
+fn flight(state: &[u8], i: usize) -> Numbered
     requires { HasState state.now }
-    ensures { Reads (λ s. nth i (keys s.in_flight)) state.now result }
+    ensures { Reads (λ s. nth i (keys s.in_flight)) state.now (number_in result) }
 {
     let n = state::in_flight_count(state);
     if n <= i {
-        return None;
+        return Numbered::Nothing;
     }
     let past = i * FLIGHT;
     let at = FIRST_NUMBER + past;
     let number = numbers::get_be(state, at);
-    Some(number)
+    Numbered::Is(number)
 }
 
 // The number in flight at a place in their order.
@@ -154,17 +170,22 @@ pub fn in_flight_at(state: &[u8], i: usize) -> NumberAnswer
             number: 0,
         };
     }
-    match flight(state, i) {
-        None => NumberAnswer {
-            code,
-            found: false,
-            number: 0,
-        },
-        Some(number) => NumberAnswer {
-            code,
-            found: true,
-            number,
-        },
+    let p = flight(state, i);
+    match p {
+        Numbered::Nothing => {
+            return NumberAnswer {
+                code,
+                found: false,
+                number: 0,
+            };
+        }
+        Numbered::Is(number) => {
+            return NumberAnswer {
+                code,
+                found: true,
+                number,
+            };
+        }
     }
 }
 
@@ -222,7 +243,7 @@ fn cursor_text(state: &[u8]) -> TextAnswer
 
 // The cursor's text, by its place in the buffer.
 pub fn cursor(state: &[u8]) -> TextAnswer
-    ensures { Answers (λ s. s.cursor) None state.now result.code (kept result.found (part result.text.at result.text.length state.now)) × (result.text.at + result.text.length ≤ length state.now) }
+    ensures { Answers (λ s. s.cursor) none state.now result.code (kept result.found (part result.text.at result.text.length state.now)) × (result.text.at + result.text.length ≤ length state.now) }
 {
     let code = refusal(state);
     if code != 0 {
@@ -299,7 +320,7 @@ fn record_bytes(state: &[u8], i: usize) -> RecordAnswer
 
 // The record at a place in their order: its resource, and its event in the frame's form, by their places in the buffer.
 pub fn record_at(state: &[u8], i: usize) -> RecordAnswer
-    ensures { Answers (λ s. record_bytes (nth i s.records)) None state.now result.code (kept result.found (part result.name.at result.name.length state.now, part result.event.at result.event.length state.now)) × (result.name.at + result.name.length ≤ length state.now) × (result.event.at + result.event.length ≤ length state.now) }
+    ensures { Answers (λ s. record_bytes (nth i s.records)) none state.now result.code (kept result.found (part result.name.at result.name.length state.now, part result.event.at result.event.length state.now)) × (result.name.at + result.name.length ≤ length state.now) × (result.event.at + result.event.length ≤ length state.now) }
 {
     let code = refusal(state);
     if code != 0 {
@@ -344,7 +365,8 @@ fn queue_bytes(state: &[u8], i: usize) -> QueueAnswer
         return no_queue(0);
     }
     let name = waiting::resource_name(names, i);
-    let Some(at) = waiting::find_entry(state, name, 0) else {
+    let head = waiting::find_entry(state, name, 0);
+    let Place::Found(at) = head else {
         return no_queue(0);
     };
     let length = byte_at(state, at);
@@ -359,7 +381,7 @@ fn queue_bytes(state: &[u8], i: usize) -> QueueAnswer
 
 // The queue at a place in the order of their resources: its resource, by its place in the buffer, and how many entries wait in it.
 pub fn queue_at(state: &[u8], i: usize) -> QueueAnswer
-    ensures { Answers (λ s. queue_count (nth i s.edits)) None state.now result.code (kept result.found (part result.name.at result.name.length state.now, result.count)) × (result.name.at + result.name.length ≤ length state.now) }
+    ensures { Answers (λ s. queue_count (nth i s.edits)) none state.now result.code (kept result.found (part result.name.at result.name.length state.now, result.count)) × (result.name.at + result.name.length ≤ length state.now) }
 {
     let code = refusal(state);
     if code != 0 {

@@ -1,13 +1,12 @@
 // sync.rs, the answers to the reads and writes of edits.
 #![tactic(auto)]
 
-ghost use Rattle.std.specs.Prelude.{◌≡◌, Some, None};
+ghost use Rattle.std.specs.Prelude.{◌≡◌};
+ghost use Rattle.std.proofs.Math.Option.{none, some};
 ghost use Rattle.model.specs.Event.{ProviderEvent};
 ghost use Rattle.model.specs.Formats.{event_f};
-ghost use Rattle.waiting.specs.Queues.{nth, queue};
-ghost use Rattle.model.specs.Sync.{is_create, is_delete, observe_write, written, deleted, read_again, write_failed, on_edit_write, edit_read_found, on_edit_read};
-ghost use Rattle.model.specs.Maps.{is_some_and};
-ghost use Rattle.state.specs.Contract.{HasState, Reads};
+ghost use Rattle.model.specs.Sync.{observe_write, written, deleted, read_again, write_failed, on_edit_write, edit_read_found, on_edit_read};
+ghost use Rattle.state.specs.Contract.{HasState};
 ghost use Rattle.state.specs.Values.{name_of, Named};
 ghost use Rattle.records.specs.Events.{IsEvent};
 ghost use Rattle.frame.specs.Meaning.{option_event_at, meant_failure, meant_outcome};
@@ -21,7 +20,6 @@ use machine::Progress;
 use names::Name;
 use queues::Ending;
 use values::Listed;
-use waiting::OperationCase;
 
 // SyncState::observe_write, of an event
 fn observe_written(
@@ -34,7 +32,7 @@ fn observe_written(
 ) -> Progress
     requires has_state { HasState work.old }
     requires named { (Named name.bytes) × (IsEvent event.now) }
-    ensures { (e : ProviderEvent) → event_f.Ok e → event.now ≡ event_f.enc e → Does (observe_write id (name_of name.bytes) (Some e)) work.old out.old p result work.new out.new }
+    ensures { (e : ProviderEvent) → event_f.Ok e → event.now ≡ event_f.enc e → Does (observe_write id (name_of name.bytes) (some e)) work.old out.old p result work.new out.new }
 {
     if machine::doubtful(work, id, name) {
         return observe::doubt(work, out, p, name);
@@ -46,40 +44,12 @@ fn observe_written(
 fn observe_deleted(work: &mut [u8], out: &mut [u8], p: Progress, id: u64, name: Name) -> Progress
     requires has_state { HasState work.old }
     requires named { Named name.bytes }
-    ensures { Does (observe_write id (name_of name.bytes) None) work.old out.old p result work.new out.new }
+    ensures { Does (observe_write id (name_of name.bytes) none) work.old out.old p result work.new out.new }
 {
     if machine::doubtful(work, id, name) {
         return observe::doubt(work, out, p, name);
     }
     observe::observe_gone(work, p, name)
-}
-
-// Whether the head creates.
-fn head_creates(work: &[u8], name: Name) -> bool
-    requires has_state { HasState work.now }
-    requires named { Named name.bytes }
-    ensures { Reads (λ s. is_some_and (λ e. is_create e.edit.operation) (nth 0 (queue (name_of name.bytes) s))) work.now result }
-{
-    match waiting::operation_case(work, name, 0) {
-        Some(OperationCase::Create) => true,
-        Some(OperationCase::Update) => false,
-        Some(OperationCase::Delete) => false,
-        None => false,
-    }
-}
-
-// Whether the head deletes.
-fn head_deletes(work: &[u8], name: Name) -> bool
-    requires has_state { HasState work.now }
-    requires named { Named name.bytes }
-    ensures { Reads (λ s. is_some_and (λ e. is_delete e.edit.operation) (nth 0 (queue (name_of name.bytes) s))) work.now result }
-{
-    match waiting::operation_case(work, name, 0) {
-        Some(OperationCase::Create) => false,
-        Some(OperationCase::Update) => false,
-        Some(OperationCase::Delete) => true,
-        None => false,
-    }
 }
 
 fn written(
@@ -94,7 +64,8 @@ fn written(
     requires named { (Named name.bytes) × (IsEvent event.now) }
     ensures { (e : ProviderEvent) → event_f.Ok e → event.now ≡ event_f.enc e → Does (written id (name_of name.bytes) e) work.old out.old p result work.new out.new }
 {
-    if head_creates(work, name) {
+    let case = waiting::operation_case(work, name, 0);
+    if case == 0 {
         let to = observe::resource_of(event);
         let q = observe_written(work, out, p, id, to, event);
         let r = writes::remap(work, out, q, name, to);
@@ -131,7 +102,8 @@ fn not_found(work: &mut [u8], out: &mut [u8], p: Progress, id: u64, name: Name) 
     requires named { Named name.bytes }
     ensures { Does (write_not_found id (name_of name.bytes)) work.old out.old p result work.new out.new }
 {
-    if head_deletes(work, name) {
+    let case = waiting::operation_case(work, name, 0);
+    if case == 2 {
         return deleted(work, out, p, id, name);
     }
     read_again(work, out, p, name)
@@ -232,7 +204,7 @@ fn edit_read_event(
 ) -> Progress
     requires has_state { HasState work.old }
     requires named { (Named name.bytes) × (IsEvent theirs.now) }
-    ensures { (t : ProviderEvent) → event_f.Ok t → theirs.now ≡ event_f.enc t → Does (edit_read_found id (name_of name.bytes) (Some t)) work.old out.old p result work.new out.new }
+    ensures { (t : ProviderEvent) → event_f.Ok t → theirs.now ≡ event_f.enc t → Does (edit_read_found id (name_of name.bytes) (some t)) work.old out.old p result work.new out.new }
 {
     if machine::doubtful(work, id, name) {
         return read_or_doubt(work, out, p, name);
@@ -256,7 +228,7 @@ fn observe_missing(work: &mut [u8], p: Progress, name: Name) -> Progress
 fn edit_read_gone(work: &mut [u8], out: &mut [u8], p: Progress, id: u64, name: Name) -> Progress
     requires has_state { HasState work.old }
     requires named { Named name.bytes }
-    ensures { Does (edit_read_found id (name_of name.bytes) None) work.old out.old p result work.new out.new }
+    ensures { Does (edit_read_found id (name_of name.bytes) none) work.old out.old p result work.new out.new }
 {
     if machine::doubtful(work, id, name) {
         return read_or_doubt(work, out, p, name);

@@ -1,9 +1,9 @@
 -- What is printed for the one line of an input: each law's premises are what the callees ensure. Assumes nothing.
-use Rattle.std.specs.Prelude.{Option}
 use Prim.Native.Nat.{ℕ, suc, ◌<◌}
 use mathlib.Core.Path.{◌≡◌, refl, sym, ap, ◌∙◌}
 use mathlib.Core.Bool.{true, false}
 use mathlib.Core.List.{List, [], ◌∷◌, ◌++◌, map}
+use mathlib.Core.Option.{Option}
 use lib.ListN.{length, take}
 use lib.Seq.{take-take}
 use Rattle.model.specs.Machine.{match◌none:◌some:◌}

@@ -2,16 +2,34 @@
 #![tactic(auto)]
 
 use comparison::part;
-use frame::{Cursor, MAX_ATTENDEES, MAX_EVENT};
+use frame::Cursor;
 use pens::Pen;
-use printing::show;
+
+// The file number of standard output.
+const STDOUT_FILENO: i32 = 1;
+
+fn write(bytes: &[u8]) {
+    io::write_all(STDOUT_FILENO, bytes);
+}
+
+fn digit(n: u8) -> u8 {
+    if n < 10 {
+        return b'0' + n;
+    }
+    if n < 16 {
+        return b'a' + (n - 10);
+    }
+    b'?'
+}
 
 // The bytes in hexadecimal.
-fn show_digits(bytes: &[u8]) {
-    for b in bytes {
-        let mut digits = [0u8; 16];
-        let n = io::hex(u64::from(*b), 2, &mut digits);
-        show(&digits[..n]);
+fn show(bytes: &[u8]) {
+    let mut i = 0;
+    while i < bytes.len() {
+        let b = bytes[i];
+        let pair: [u8; 2] = [digit(b / 16), digit(b % 16)];
+        write(&pair);
+        i += 1;
     }
 }
 
@@ -20,28 +38,28 @@ fn reports<'a>(base: &'a [u8], ours: &'a [u8], theirs: &'a [u8], role: &'a [u8])
     let mut conflicts = [0u8; 3072];
     let start = Pen { at: 0, ok: true };
     let pen = merge::conflicts(start, &mut conflicts, base, ours, theirs, role);
-    show_digits(part(&conflicts, 0, pen.at));
+    show(part(&conflicts, 0, pen.at));
     let mut refused = [0u8; 1024];
     let end = merge::refused(start, &mut refused, base, ours, theirs, role);
-    show_digits(part(&refused, 0, end.at));
-    show(b"\n");
+    show(part(&refused, 0, end.at));
+    write(b"\n");
 }
 
 fn answer<'a>(base: &'a [u8], ours: &'a [u8], theirs: &'a [u8], role: &'a [u8]) {
-    if MAX_ATTENDEES < merge::merged_attendees(base, ours, theirs, role) {
-        show(b"06\n");
+    if 8 < merge::merged_attendees(base, ours, theirs, role) {
+        write(b"06\n");
         return;
     }
-    let mut event = [0u8; MAX_EVENT];
+    let mut event = [0u8; 882];
     let start = Pen { at: 0, ok: true };
     let pen = merge::merged_event(start, &mut event, base, ours, theirs, role);
     let merged = part(&event, 0, pen.at);
     if merge::changed(merged, theirs) {
-        show(b"01 ");
-        show_digits(merged);
-        show(b" ");
+        write(b"01 ");
+        show(merged);
+        write(b" ");
     } else {
-        show(b"00 - ");
+        write(b"00 - ");
     }
     reports(base, ours, theirs, role);
 }
@@ -68,11 +86,16 @@ fn one(s: &[u8], place: Cursor) -> Cursor {
 // Every case takes a byte at least, so there are no more of them than bytes.
 fn all(s: &[u8]) {
     let mut place = Cursor { at: 0, ok: true };
-    for _ in 0..s.len() {
-        if !place.ok || s.len() <= place.at {
+    let mut left = s.len();
+    while 0 < left {
+        if !place.ok {
+            return;
+        }
+        if s.len() <= place.at {
             return;
         }
         place = one(s, place);
+        left -= 1;
     }
 }
 

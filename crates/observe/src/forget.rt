@@ -6,9 +6,10 @@ ghost use Rattle.state.specs.Values.{name_of, Named};
 ghost use Rattle.staged.specs.Staging.{staged_of};
 ghost use Rattle.observe.specs.Forgetting.{settled_before, settled, held_in_pass, held_in, with_held_aliases, Tested};
 
+use crate::open_pass::{STAGED, STAGED_SIZE, STAGED_SLOT};
 use names::Name;
-use pass_tables::Names;
-use staged::STAGED;
+use state::Numbered;
+use tables::Place;
 
 fn forget_before(work: &mut [u8], oldest: u64)
     requires { HasState work.old }
@@ -25,12 +26,15 @@ pub fn forget_settled(work: &mut [u8])
     requires { HasState work.old }
     ensures { Edits settled work.old work.new }
 {
-    match state::first_in_flight(work) {
-        None => {
+    let oldest = state::first_in_flight(work);
+    match oldest {
+        Numbered::Nothing => {
             state::clear_learned(work);
             state::set_learned_all(work, 0);
         }
-        Some(n) => forget_before(work, n),
+        Numbered::Is(n) => {
+            forget_before(work, n);
+        }
     }
 }
 
@@ -39,7 +43,15 @@ fn has_record(work: &[u8], name: Name) -> bool
     requires named { Named name.bytes }
     ensures { Reads (λ s. is_some (get by_name (name_of name.bytes) s.records)) work.now result }
 {
-    records::find_record(work, name).is_some()
+    let place = records::find_record(work, name);
+    match place {
+        Place::Found(at) => {
+            return true;
+        }
+        Place::Missing(at) => {
+            return false;
+        }
+    }
 }
 
 fn is_staged(work: &[u8], name: Name) -> bool
@@ -47,7 +59,16 @@ fn is_staged(work: &[u8], name: Name) -> bool
     requires named { Named name.bytes }
     ensures { Reads (λ s. is_some (get by_name (name_of name.bytes) (staged_of s))) work.now result }
 {
-    STAGED.find(work, &name.bytes).is_ok()
+    let key = name.bytes;
+    let place = lent::find_in(work, STAGED, STAGED_SIZE, STAGED_SLOT, &key);
+    match place {
+        Place::Found(at) => {
+            return true;
+        }
+        Place::Missing(at) => {
+            return false;
+        }
+    }
 }
 
 fn in_pass(work: &[u8], name: Name) -> bool
@@ -58,7 +79,7 @@ fn in_pass(work: &[u8], name: Name) -> bool
     if is_staged(work, name) {
         return true;
     }
-    Names::Observed.has(work, name)
+    pass_tables::has_observed(work, name)
 }
 
 fn held_anywhere(work: &[u8], name: Name) -> bool
@@ -97,9 +118,10 @@ pub fn forget_aliases(work: &mut [u8])
     requires { HasState work.old }
     ensures { Edits with_held_aliases work.old work.new }
 {
-    let count = state::alias_count(work);
+    let mut left = state::alias_count(work);
     let mut i = 0;
-    for _ in 0..count {
+    while 0 < left {
         i = forget_alias(work, i);
+        left -= 1;
     }
 }

@@ -13,6 +13,7 @@ ghost use Rattle.observe.specs.Observing.{gives_way};
 
 use machine::Progress;
 use names::Name;
+use tables::Place;
 use versions::Version;
 
 // Whether an event of this version takes the place of what is held under a name.
@@ -21,12 +22,15 @@ fn replaces(work: &[u8], name: Name, version: Version) -> bool
     requires named { (Named name.bytes) × (length version.revision ≡ 34) }
     ensures { (e : ProviderEvent) → event_f.Ok e → VersionOf e version.revision version.mapper → Reads (gives_way (name_of name.bytes) e) work.now result }
 {
-    match records::find_record(work, name) {
-        Some(at) => {
+    let place = records::find_record(work, name);
+    match place {
+        Place::Found(at) => {
             let held = versions::version_at(work, at + 33);
-            versions::takes_place(version, held)
+            return versions::takes_place(version, held);
         }
-        None => true,
+        Place::Missing(at) => {
+            return true;
+        }
     }
 }
 

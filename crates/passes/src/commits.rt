@@ -6,8 +6,7 @@ ghost use Rattle.machine.specs.Contract.{Does, Changes};
 ghost use Rattle.passes.specs.Committing.{apply_at, apply_all, seen_kept, apply_open, stage_all, read_open, is_ready, commit_open};
 
 use machine::Progress;
-use pass_tables::Names;
-use staged::Staged;
+use staged::StagedKind;
 
 // Stores or takes out the record of staged entry i.
 fn apply_entry(work: &mut [u8], p: Progress, i: usize) -> Progress
@@ -16,12 +15,18 @@ fn apply_entry(work: &mut [u8], p: Progress, i: usize) -> Progress
     ensures { Changes (apply_at i) work.old p result work.new }
 {
     let name = staged::staged_name(work, i);
-    match staged::entry(work, i) {
-        Staged::Present(at) => observe::put_record_at(work, p, name, at),
-        Staged::Unread => p,
-        Staged::Removed => {
+    let kind = staged::staged_kind(work, i);
+    match kind {
+        StagedKind::Present => {
+            let at = staged::staged_event(work, i);
+            return observe::put_record_at(work, p, name, at);
+        }
+        StagedKind::Unread => {
+            return p;
+        }
+        StagedKind::Removed => {
             records::remove_record(work, name);
-            p
+            return p;
         }
     }
 }
@@ -69,11 +74,11 @@ fn stage_observed(work: &mut [u8], p: Progress) -> Progress
 {
     let mut progress = p;
     let mut i = 0;
-    let mut count = Names::Observed.count(work);
+    let mut count = pass_tables::observed_count(work);
     while i < count {
-        let name = Names::Observed.at(work, i);
+        let name = pass_tables::observed_at(work, i);
         progress = observe::stage_unread(work, progress, name);
-        count = Names::Observed.count(work);
+        count = pass_tables::observed_count(work);
         i += 1;
     }
     progress
@@ -84,7 +89,7 @@ fn read_observed(work: &mut [u8], out: &mut [u8], p: Progress) -> Progress
     ensures { Does read_open work.old out.old p result work.new out.new }
 {
     let q = stage_observed(work, p);
-    Names::Observed.clear(work);
+    pass_tables::clear_observed(work);
     observe::read_unread(work, out, q)
 }
 
@@ -103,7 +108,7 @@ fn commit(work: &mut [u8], out: &mut [u8], p: Progress) -> Progress
     requires { HasState work.old }
     ensures { Does commit_open work.old out.old p result work.new out.new }
 {
-    if Names::Observed.count(work) == 0 {
+    if pass_tables::observed_count(work) == 0 {
         return apply_pass(work, out, p);
     }
     read_observed(work, out, p)

@@ -169,7 +169,12 @@ fn target(work: &[u8], frame: &[u8], edit: Edit) -> Name
     if is_create(what) {
         return name;
     }
-    state::alias(work, name).unwrap_or(name)
+    let to = state::alias(work, name);
+    if to.found {
+        let other = to.name;
+        return other;
+    }
+    name
 }
 
 // SyncState::enqueue

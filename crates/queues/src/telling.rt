@@ -15,6 +15,7 @@ use effects::Refusal;
 use frame::{Outcome, TextPart};
 use machine::Progress;
 use names::Name;
+use tables::Place;
 
 // How an edit ends: applied, or rejected with a reason of the engine's or with the provider's.
 #[derive(Clone, Copy)]
@@ -36,15 +37,19 @@ fn tell_applied(
     requires named { Named name.bytes }
     ensures { Sends (applied_effect j (name_of id.bytes) (name_of name.bytes)) work.now out.old p result out.new }
 {
-    match waiting::find_entry(work, name, j) {
-        Some(at) => {
+    let place = waiting::find_entry(work, name, j);
+    match place {
+        Place::Found(at) => {
+            let key = id.bytes;
             let conflicts = conflicts_at(work, at + 1578);
             let refused = refused_at(work, at + 4650);
-            let edit = machine::text_of(&id.bytes);
+            let edit = machine::text_of(&key);
             let pen = effects::applied(machine::pen_of(p), out, edit, conflicts, refused);
-            machine::sent(p, pen)
+            return machine::sent(p, pen);
         }
-        None => p,
+        Place::Missing(_at) => {
+            return p;
+        }
     }
 }
 
@@ -121,8 +126,10 @@ pub fn notify(
 {
     let n = waiting::ids_count(work, name, j);
     let mut q = p;
-    for k in 0..n {
+    let mut k = 0;
+    while k < n {
         q = tell_id(work, out, q, name, j, k, ending, frame);
+        k += 1;
     }
     q
 }

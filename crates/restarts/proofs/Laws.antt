@@ -1,9 +1,9 @@
 -- What is lost with a restart, and asked for again. Assumes nothing.
-use Rattle.std.specs.Prelude.{Option, Some, None}
 use Prim.Native.Nat.{ℕ, ◌+◌, ◌*◌, ◌≤◌, ◌<◌}
 use native.Mathlib.Omega.{arith}
 use mathlib.Core.Path.{◌≡◌, refl, sym, ap, ◌∙◌, subst}
 use mathlib.Core.List.{List, [], ◌∷◌}
+use mathlib.Core.Option.{Option, none, some}
 use mathlib.Core.Bool.{Bool, true, false, false≢true}
 use lib.ListN.{length, take, drop, get_or, length-append}
 use Rattle.format.specs.Format.{All}
@@ -131,8 +131,8 @@ unfolding in_pass match◌none:◌some:◌ is_some
 pass_closed R e = runs.is_held (in_pass resume_pass) (λ m h. go m m.state.pass (sym e ∙ R.is m.state h.keeps)) runs.nothing
   where
     go : (m : Machine) (o : Option Pass) → false ≡ is_some o → ok m ≡ (match o none: ok m some: (λ pass. resume_pass pass m))
-    go m None e = refl
-    go m (Some p) e = absurd (false≢true e)
+    go m none e = refl
+    go m (some p) e = absurd (false≢true e)
 
 pub pass_listed : {w o w' o' : List ℕ} {p q : Progress} {v d : Bool} → Reads (λ s. is_some s.pass) w v → v ≡ true → Reads (λ s. is_some (pass_of s.pass).done) w d → d ≡ true
     → Does read_unread w o p q w' o' → Does (in_pass resume_pass) w o p q w' o'
@@ -141,8 +141,8 @@ pass_listed R e S f D =
     runs.is_held (in_pass resume_pass) (λ m h. go m m.state.pass (sym e ∙ R.is m.state h.keeps) (sym f ∙ S.is m.state h.keeps)) D
   where
     go : (m : Machine) (o : Option Pass) → true ≡ is_some o → true ≡ is_some (pass_of o).done → read_unread m ≡ (match o none: ok m some: (λ pass. resume_pass pass m))
-    go m None e f = absurd (false≢true (sym e))
-    go m (Some p) e f = rw (← f)
+    go m none e f = absurd (false≢true (sym e))
+    go m (some p) e f = rw (← f)
 
 pub pass_asks : {w o w₁ o₁ w' o' : List ℕ} {p q r : Progress} {v d : Bool} → Reads (λ s. is_some s.pass) w v → v ≡ true → Reads (λ s. is_some (pass_of s.pass).done) w d → d ≡ false
     → Does request_from w o p q w₁ o₁ → Does read_unread w₁ o₁ q r w' o' → Does (in_pass resume_pass) w o p r w' o'
@@ -152,8 +152,8 @@ pass_asks R e S f D U =
   where
     go : (m : Machine) (o : Option Pass) → m.state.pass ≡ o → true ≡ is_some o → false ≡ is_some (pass_of o).done
         → (request Purpose.List (Request.List (pass_of o).from) m >>= read_unread) ≡ (match o none: ok m some: (λ pass. resume_pass pass m))
-    go m None q e f = absurd (false≢true (sym e))
-    go m (Some p) q e f = rw (← f)
+    go m none q e f = absurd (false≢true (sym e))
+    go m (some p) q e f = rw (← f)
 
 -- ---- the whole of it
 

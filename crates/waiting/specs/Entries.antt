@@ -1,6 +1,9 @@
 -- Where a waiting entry stands in the work buffer, and what stands at its fields' places. Assumes nothing.
-use Rattle.std.specs.Prelude.{ℕ, ◌+◌, ◌≤◌, ◌≡◌, List, length, take, drop, Option, Some, None}
+use Rattle.std.specs.Prelude.{ℕ, ◌+◌, ◌≤◌, ◌≡◌, List, length, take, drop}
+use Rattle.std.proofs.Math.Option.{none, some}
 use Rattle.format.specs.Format.{option, list, stamp, bool}
+use Rattle.tables.specs.declared.Place.{Place}
+use Rattle.tables.specs.declared.Place.TheVariants.{Found, Missing}
 use Rattle.model.specs.Seam.{ResourceId}
 use Rattle.model.specs.Parts.{Conflict, Refused}
 use Rattle.model.specs.Edits.{Edit, Operation}
@@ -16,7 +19,7 @@ use Rattle.waiting.specs.Queues.{queue, nth}
 
 -- entry j of the queue of r stands at p: its slot's bytes, and its fields', each in its width
 pub record EntryAt (r : ResourceId) (j : ℕ) (w : List ℕ) (s : SyncState) (p : ℕ) (entry : Pending) : Type 0 where
-  pub got : nth j (queue r s) ≡ Some entry
+  pub got : nth j (queue r s) ≡ some entry
   pub fits : PendingFits document01 r entry
   pub room : p + 5940 ≤ 55643
   pub slot : take 5940 (drop p w) ≡ pending_slot document01 r entry
@@ -33,11 +36,11 @@ pub record SomeEntryAt (r : ResourceId) (j : ℕ) (w : List ℕ) (s : SyncState)
   pub entry : Pending
   pub is : EntryAt r j w s p entry
 
-unfoldable pub EntryIs : ResourceId → ℕ → List ℕ → SyncState → Option ℕ → Type 0
-EntryIs r j w s (Some p) = SomeEntryAt r j w s p
-EntryIs r j w s None = nth j (queue r s) ≡ None
+unfoldable pub EntryIs : ResourceId → ℕ → List ℕ → SyncState → Place → Type 0
+EntryIs r j w s (Found p) = SomeEntryAt r j w s p
+EntryIs r j w s (Missing p) = nth j (queue r s) ≡ none
 
-pub record FindsEntry (r : ResourceId) (j : ℕ) (w : List ℕ) (place : Option ℕ) : Type 0 where
+pub record FindsEntry (r : ResourceId) (j : ℕ) (w : List ℕ) (place : Place) : Type 0 where
   pub is : (s : SyncState) → Keeps s w → EntryIs r j w s place
 
 -- the bytes of a merge's reports

@@ -8,13 +8,13 @@ ghost use Rattle.model.specs.Formats.{resource_id};
 ghost use Rattle.state.specs.Layout.{padded, name_slot};
 ghost use Rattle.state.specs.Contract.{HasState, Reads};
 ghost use Rattle.state.specs.Values.{name_of, Named};
-ghost use Rattle.waiting.specs.Queues.{below, queue, all_entries, slot_number};
+ghost use Rattle.waiting.specs.Queues.{below, queue, all_entries};
 ghost use Rattle.waiting.specs.Entries.{FindsEntry, ListsResources};
 
 use crate::counting::tally_in;
-use crate::slots::{EDITS, NAME, slot_at};
+use crate::slots::{EDITS, EDITS_SLOT, NAME_WIDTH};
 use names::Name;
-use std::cmp::Ordering;
+use tables::Place;
 
 // The resources that have a queue, in order: so many names of 33 bytes.
 #[derive(Clone, Copy)]
@@ -28,7 +28,7 @@ pub fn entries(work: &[u8]) -> usize
     requires { HasState work.now }
     ensures { Reads all_entries work.now result }
 {
-    usize::from(work[EDITS.at])
+    work[EDITS] as usize
 }
 
 // The entries of the resources before one: the number of its queue's first slot.
@@ -37,7 +37,8 @@ pub fn entries_before(work: &[u8], name: Name) -> usize
     requires named { Named name.bytes }
     ensures { Reads (λ s. below (name_of name.bytes) s.edits) work.now result }
 {
-    tally_in(work, &name.bytes, Ordering::Less)
+    let key = name.bytes;
+    tally_in(work, &key, false)
 }
 
 // The entries of one queue.
@@ -46,29 +47,22 @@ pub fn waiting_count(work: &[u8], name: Name) -> usize
     requires named { Named name.bytes }
     ensures { Reads (λ s. length (queue (name_of name.bytes) s)) work.now result }
 {
-    tally_in(work, &name.bytes, Ordering::Equal)
-}
-
-// The number of the j-th entry's slot, if the queue has so many.
-pub fn slot_number(work: &[u8], name: Name, j: usize) -> Option<usize>
-    requires has_state { HasState work.now }
-    requires named { Named name.bytes }
-    ensures { Reads (slot_number (name_of name.bytes) j) work.now result }
-{
-    if waiting_count(work, name) <= j {
-        return None;
-    }
-    Some(entries_before(work, name) + j)
+    let key = name.bytes;
+    tally_in(work, &key, true)
 }
 
 // Where the j-th entry of a queue stands in the work buffer, counted from 0.
-pub fn find_entry(work: &[u8], name: Name, j: usize) -> Option<usize>
+pub fn find_entry(work: &[u8], name: Name, j: usize) -> Place
     requires has_state { HasState work.now }
     requires named { Named name.bytes }
     ensures { FindsEntry (name_of name.bytes) j work.now result }
 {
-    let i = slot_number(work, name, j)?;
-    Some(slot_at(i))
+    let n = waiting_count(work, name);
+    if n <= j {
+        return Place::Missing(0);
+    }
+    let i = entries_before(work, name) + j;
+    Place::Found(EDITS + (1 + i * EDITS_SLOT))
 }
 
 // The resources that have a queue.
@@ -81,8 +75,9 @@ pub fn resources(work: &[u8]) -> ResourceNames
     let mut count = 0;
     let mut i = 0;
     while i < total {
-        let name = names::name_at(work, slot_at(i));
-        tables::put_slot(&mut bytes, count * NAME.width, &name.bytes);
+        let name = names::name_at(work, EDITS + (1 + i * EDITS_SLOT));
+        let key = name.bytes;
+        tables::put_slot(&mut bytes, count * NAME_WIDTH, &key);
         i += waiting_count(work, name);
         count += 1;
     }
@@ -94,5 +89,6 @@ pub fn resource_name(names: ResourceNames, k: usize) -> Name
     requires { (k < 6) × (length names.bytes ≡ 198) }
     ensures { (ks : List ResourceId) → All resource_id.Ok ks → names.bytes ≡ padded 198 (flat (map name_slot ks)) → k < length ks → Named result.bytes × (name_of result.bytes ≡ get_or ks k []) }
 {
-    names::name_at(&names.bytes, k * NAME.width)
+    let bytes = names.bytes;
+    names::name_at(&bytes, k * NAME_WIDTH)
 }

@@ -19,9 +19,7 @@ use Rattle.model.proofs.Tables.{same_self, by_name_same, name_order}
 use Rattle.state.specs.Setters.{with_edits}
 use Rattle.state.specs.Contract.{Keeps, HasState, Reads, Edits, Tries}
 use Rattle.waiting.specs.Queues.{queue, put_queue, renamed, nth, moved}
-use Rattle.waiting.specs.declared.readers.OperationCase.{OperationCase}
-use Rattle.waiting.specs.declared.readers.OperationCase.TheVariants as Case
-use Rattle.waiting.specs.Reading.{case_of, operation_case_of}
+use Rattle.waiting.specs.Reading.{operation_case_of}
 use Rattle.waiting.proofs.Bridge.{queue_is, set_queue_is}
 use Rattle.waiting.proofs.Splices.{rows_count}
 use Rattle.machine.specs.declared.Progress.{Progress}
@@ -115,33 +113,16 @@ module _ (from to : ResourceId) (d : by_name from to ≡ Ordering.eq → ⊥) (d
 
 -- ---- the functions
 
--- whether a case is that of a create
-abbrev pub case_creates : Option OperationCase → Bool
-case_creates None = false
-case_creates (Some Case.Create) = true
-case_creates (Some Case.Update) = false
-case_creates (Some Case.Delete) = false
-
-stays_by : (x : Option Pending) (b : Bool) → b ≡ case_creates (operation_case_of x) → is_some_and (λ p. is_create p.edit.operation) x ≡ b
-unfolding operation_case_of is_some_and is_create
-stays_by None b e = sym e
-stays_by (Some p) b e = go p.edit.operation b e
-  where
-    go : (o : Operation) (b : Bool) → b ≡ case_creates (Some (case_of o)) → is_create o ≡ b
-    go (Operation.Create event) b e = sym e
-    go (Operation.Update base ours) b e = sym e
-    go Operation.Delete b e = sym e
-
-pub one_stays : {from to : ResourceId} {w : List ℕ} {j : ℕ} {c : Option OperationCase} → Reads (λ s. operation_case_of (nth j (queue from s))) w c → true ≡ case_creates c → MovesOne from j to w (j + 1) w
+pub one_stays : {from to : ResourceId} {w : List ℕ} {j : ℕ} {c : ℕ} → Reads (λ s. operation_case_of (nth j (queue from s))) w c → c ≡ 0 → MovesOne from j to w (j + 1) w
 unfolding stays_at one_moved place_after when◌then◌else◌
 one_stays {from} {to} {w} {j} {c} R z =
-    let t : (s : SyncState) → Keeps s w → stays_at from j s ≡ true = λ s h. stays_by (nth j (queue from s)) true (z ∙ ap case_creates (R.is s h)) in
+    let t : (s : SyncState) → Keeps s w → stays_at from j s ≡ true = λ s h. eq-eqb (operation_case_of (nth j (queue from s))) 0 (sym (R.is s h) ∙ z) in
     record { next = λ s h. rw (t s h); makes = λ s h. rw (t s h) h }
 
-pub one_moves : {from to : ResourceId} {w w' : List ℕ} {j : ℕ} {c : Option OperationCase} → Reads (λ s. operation_case_of (nth j (queue from s))) w c → false ≡ case_creates c → Edits (moved from j to) w w' → MovesOne from j to w j w'
+pub one_moves : {from to : ResourceId} {w w' : List ℕ} {j : ℕ} {c : ℕ} → Reads (λ s. operation_case_of (nth j (queue from s))) w c → (c ≡ 0 → ⊥) → Edits (moved from j to) w w' → MovesOne from j to w j w'
 unfolding stays_at one_moved place_after when◌then◌else◌
 one_moves {from} {to} {w} {j = j} R z E =
-    let t : (s : SyncState) → Keeps s w → stays_at from j s ≡ false = λ s h. stays_by (nth j (queue from s)) false (z ∙ ap case_creates (R.is s h)) in
+    let t : (s : SyncState) → Keeps s w → stays_at from j s ≡ false = λ s h. ne_eqb (operation_case_of (nth j (queue from s))) 0 (λ y. z (R.is s h ∙ y)) in
     record { next = λ s h. rw (t s h); makes = λ s h. rw (t s h) (E.makes s h) }
 
 -- no queue has more than all entries

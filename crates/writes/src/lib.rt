@@ -1,12 +1,13 @@
 // sync.rs, the writing half: planning from a read, the answers to writes, and entries that follow a resource to another name.
 #![tactic(auto)]
 
-ghost use Rattle.std.specs.Prelude.{◌≡◌, false, ◌+◌, ◌≤◌, ◌<◌, length, Option, Some, None};
+ghost use Rattle.std.specs.Prelude.{◌≡◌, false, ◌+◌, ◌≤◌, ◌<◌, length};
+ghost use Rattle.std.proofs.Math.Option.{Option, none, some};
 ghost use Rattle.format.specs.Format.{option};
 ghost use Rattle.model.specs.Event.{ProviderRevision, NormalizedEvent, ProviderEvent};
 ghost use Rattle.model.specs.Parts.{Role};
 ghost use Rattle.model.specs.Seam.{Request};
-ghost use Rattle.model.specs.State as model;
+ghost use Rattle.model.specs.State.{Purpose};
 ghost use Rattle.model.specs.Limits.{max_attendees};
 ghost use Rattle.model.specs.Formats.{same, short_text, fields_f, event_f, conflicts_f, refusals_f};
 ghost use Rattle.model.specs.Merge.{merge};
@@ -29,8 +30,8 @@ use machine::Progress;
 use names::Name;
 use pens::Pen;
 use queues::Ending;
-use state::Purpose;
-use waiting::OperationCase;
+use state::Kind;
+use tables::Place;
 
 // ---- requests
 
@@ -44,10 +45,10 @@ fn request_update(
 ) -> Progress
     requires has_state { HasState work.old }
     requires named { Named name.bytes }
-    ensures { (v : Option ProviderRevision) (e : ProviderEvent) → revision.now ≡ (option short_text).enc v → event.now ≡ event_f.enc e → Does (request (model.Purpose.EditWrite (name_of name.bytes)) (Request.Update (name_of name.bytes) v e)) work.old out.old p result work.new out.new }
+    ensures { (v : Option ProviderRevision) (e : ProviderEvent) → revision.now ≡ (option short_text).enc v → event.now ≡ event_f.enc e → Does (request (Purpose.EditWrite (name_of name.bytes)) (Request.Update (name_of name.bytes) v e)) work.old out.old p result work.new out.new }
 {
     let id = state::next_request(work);
-    let q = machine::reserve(work, p, Purpose::EditWrite(name));
+    let q = machine::reserve(work, p, Kind::EditWrite, name);
     let key = name.bytes;
     let pen = effects::update(
         machine::pen_of(q),
@@ -69,10 +70,10 @@ fn request_delete(
 ) -> Progress
     requires has_state { HasState work.old }
     requires named { Named name.bytes }
-    ensures { (v : Option ProviderRevision) → revision.now ≡ (option short_text).enc v → Does (request (model.Purpose.EditWrite (name_of name.bytes)) (Request.Delete (name_of name.bytes) v)) work.old out.old p result work.new out.new }
+    ensures { (v : Option ProviderRevision) → revision.now ≡ (option short_text).enc v → Does (request (Purpose.EditWrite (name_of name.bytes)) (Request.Delete (name_of name.bytes) v)) work.old out.old p result work.new out.new }
 {
     let id = state::next_request(work);
-    let q = machine::reserve(work, p, Purpose::EditWrite(name));
+    let q = machine::reserve(work, p, Kind::EditWrite, name);
     let key = name.bytes;
     let pen = effects::delete(
         machine::pen_of(q),
@@ -214,13 +215,12 @@ fn move_one(work: &mut [u8], from: Name, j: usize, to: Name) -> usize
     requires named { (Named from.bytes) × (Named to.bytes) × (j < 6) }
     ensures { MovesOne (name_of from.bytes) j (name_of to.bytes) work.old result work.new }
 {
-    match waiting::operation_case(work, from, j) {
-        Some(OperationCase::Create) => j + 1,
-        _ => {
-            waiting::move_entry(work, from, j, to);
-            j
-        }
+    let case = waiting::operation_case(work, from, j);
+    if case == 0 {
+        return j + 1;
     }
+    waiting::move_entry(work, from, j, to);
+    j
 }
 
 // Moves the entries behind the head that do not create.
@@ -324,12 +324,17 @@ fn plan_update_at(
 
 fn plan_update(work: &mut [u8], out: &mut [u8], p: Progress, name: Name, theirs: &[u8]) -> Progress
     requires has_state { HasState work.old }
-    requires named { (Named name.bytes) × (IsEvent theirs.now) × (HeadCase (name_of name.bytes) work.old (Some OperationCase.Update)) }
-    ensures { (t : ProviderEvent) → event_f.Ok t → theirs.now ≡ event_f.enc t → Does (plan_head (name_of name.bytes) (Some t)) work.old out.old p result work.new out.new }
+    requires named { (Named name.bytes) × (IsEvent theirs.now) × (HeadCase (name_of name.bytes) work.old 1) }
+    ensures { (t : ProviderEvent) → event_f.Ok t → theirs.now ≡ event_f.enc t → Does (plan_head (name_of name.bytes) (some t)) work.old out.old p result work.new out.new }
 {
-    match waiting::find_entry(work, name, 0) {
-        Some(at) => plan_update_at(work, out, p, name, at, theirs),
-        None => p,
+    let place = waiting::find_entry(work, name, 0);
+    match place {
+        Place::Found(at) => {
+            return plan_update_at(work, out, p, name, at, theirs);
+        }
+        Place::Missing(_at) => {
+            return p;
+        }
     }
 }
 
@@ -337,18 +342,23 @@ fn plan_update(work: &mut [u8], out: &mut [u8], p: Progress, name: Name, theirs:
 fn same_as_head(work: &[u8], name: Name, theirs: &[u8]) -> bool
     requires has_state { HasState work.now }
     requires named { Named name.bytes }
-    ensures { (e t : ProviderEvent) → Reads (λ s. created (nth 0 (queue (name_of name.bytes) s))) work.now (Some e) → Begins event_f theirs.now t → result ≡ same fields_f t.fields e.fields }
+    ensures { (e t : ProviderEvent) → Reads (λ s. created (nth 0 (queue (name_of name.bytes) s))) work.now (some e) → Begins event_f theirs.now t → result ≡ same fields_f t.fields e.fields }
 {
-    match waiting::find_entry(work, name, 0) {
-        Some(at) => same_fields(work, at, theirs),
-        None => false,
+    let place = waiting::find_entry(work, name, 0);
+    match place {
+        Place::Found(at) => {
+            return same_fields(work, at, theirs);
+        }
+        Place::Missing(_at) => {
+            return false;
+        }
     }
 }
 
 fn plan_create(work: &mut [u8], out: &mut [u8], p: Progress, name: Name, theirs: &[u8]) -> Progress
     requires has_state { HasState work.old }
-    requires named { (Named name.bytes) × (IsEvent theirs.now) × (HeadCase (name_of name.bytes) work.old (Some OperationCase.Create)) }
-    ensures { (t : ProviderEvent) → event_f.Ok t → theirs.now ≡ event_f.enc t → Does (plan_head (name_of name.bytes) (Some t)) work.old out.old p result work.new out.new }
+    requires named { (Named name.bytes) × (IsEvent theirs.now) × (HeadCase (name_of name.bytes) work.old 0) }
+    ensures { (t : ProviderEvent) → event_f.Ok t → theirs.now ≡ event_f.enc t → Does (plan_head (name_of name.bytes) (some t)) work.old out.old p result work.new out.new }
 {
     if queues::looks_up(work, name) {
         let to = observe::resource_of(theirs);
@@ -372,35 +382,41 @@ pub fn plan_found(
 ) -> Progress
     requires has_state { HasState work.old }
     requires named { (Named name.bytes) × (IsEvent theirs.now) }
-    ensures { (t : ProviderEvent) → event_f.Ok t → theirs.now ≡ event_f.enc t → Does (plan_head (name_of name.bytes) (Some t)) work.old out.old p result work.new out.new }
+    ensures { (t : ProviderEvent) → event_f.Ok t → theirs.now ≡ event_f.enc t → Does (plan_head (name_of name.bytes) (some t)) work.old out.old p result work.new out.new }
 {
-    match waiting::operation_case(work, name, 0) {
-        Some(OperationCase::Create) => plan_create(work, out, p, name, theirs),
-        Some(OperationCase::Update) => plan_update(work, out, p, name, theirs),
-        Some(OperationCase::Delete) => request_delete(work, out, p, name, revision_of(theirs)),
-        None => p,
+    let case = waiting::operation_case(work, name, 0);
+    if case == 0 {
+        return plan_create(work, out, p, name, theirs);
     }
+    if case == 1 {
+        return plan_update(work, out, p, name, theirs);
+    }
+    if case == 2 {
+        return request_delete(work, out, p, name, revision_of(theirs));
+    }
+    p
 }
 
 // The same, where nothing was found.
 pub fn plan_gone(work: &mut [u8], out: &mut [u8], p: Progress, name: Name) -> Progress
     requires has_state { HasState work.old }
     requires named { Named name.bytes }
-    ensures { Does (plan_head (name_of name.bytes) None) work.old out.old p result work.new out.new }
+    ensures { Does (plan_head (name_of name.bytes) none) work.old out.old p result work.new out.new }
 {
-    match waiting::operation_case(work, name, 0) {
-        Some(OperationCase::Create) => {
-            if waiting::is_collided(work, name, 0) {
-                let ending = Ending::Rejected(Refusal::Exists);
-                return queues::finish(work, out, p, name, ending, b"");
-            }
-            queues::request_create(work, out, p, name)
+    let case = waiting::operation_case(work, name, 0);
+    if case == 0 {
+        if waiting::is_collided(work, name, 0) {
+            let ending = Ending::Rejected(Refusal::Exists);
+            return queues::finish(work, out, p, name, ending, b"");
         }
-        Some(OperationCase::Update) => {
-            let ending = Ending::Rejected(Refusal::Gone);
-            queues::finish(work, out, p, name, ending, b"")
-        }
-        Some(OperationCase::Delete) => queues::finish(work, out, p, name, Ending::Applied, b""),
-        None => p,
+        return queues::request_create(work, out, p, name);
     }
+    if case == 1 {
+        let ending = Ending::Rejected(Refusal::Gone);
+        return queues::finish(work, out, p, name, ending, b"");
+    }
+    if case == 2 {
+        return queues::finish(work, out, p, name, Ending::Applied, b"");
+    }
+    p
 }

@@ -2,7 +2,8 @@
 // that it calls, and asks nothing of what it is lent. A second answer is written through a reference.
 #![tactic(auto)]
 
-ghost use Rattle.std.specs.Prelude.{◌≡◌, false, ◌+◌, ◌≤◌, length, None};
+ghost use Rattle.std.specs.Prelude.{◌≡◌, false, ◌+◌, ◌≤◌, length};
+ghost use Rattle.std.proofs.Math.Option.{none};
 ghost use Rattle.lent.specs.Lent.{part};
 ghost use Rattle.frame.specs.Read.{kept};
 ghost use Rattle.model.specs.Maps.{keys};
@@ -84,7 +85,7 @@ pub extern "C" fn bay_cursor(
     at: &mut usize,
     extent: &mut usize,
 ) -> u8
-    ensures { Answers (λ s. s.cursor) None state.now result (kept found.new (part at.new extent.new state.now)) × (at.new + extent.new ≤ length state.now) }
+    ensures { Answers (λ s. s.cursor) none state.now result (kept found.new (part at.new extent.new state.now)) × (at.new + extent.new ≤ length state.now) }
 {
     let a = access::cursor(state);
     let text = a.text;
@@ -105,7 +106,7 @@ pub extern "C" fn bay_record_at(
     event: &mut usize,
     extent: &mut usize,
 ) -> u8
-    ensures { Answers (λ s. record_bytes (nth i s.records)) None state.now result (kept found.new (part name.new size.new state.now, part event.new extent.new state.now)) × (name.new + size.new ≤ length state.now) × (event.new + extent.new ≤ length state.now) }
+    ensures { Answers (λ s. record_bytes (nth i s.records)) none state.now result (kept found.new (part name.new size.new state.now, part event.new extent.new state.now)) × (name.new + size.new ≤ length state.now) × (event.new + extent.new ≤ length state.now) }
 {
     let a = access::record_at(state, i);
     let named = a.name;

@@ -1,0 +1,14 @@
+use Rattle.state.proofs.Ops as ops
+use Rattle.pass_tables.proofs.Laws as laws
+use native.Mathlib.Omega.{arith}
+use Rattle.pass_tables.proofs.remove_observed.Goals as goal
+
+pub returns-then-open-eq0 : goal.returns-then-open-eq0
+returns-then-open-eq0 c = laws.unchanged _ c.args.work.now c.if-open-eq0.true
+
+pub remove_in-requires : goal.remove_in-requires
+remove_in-requires c = let a = (ops.named_long c.args.name.bytes c.requires.named) in
+    record { lent = laws.lent laws.observed_roster c.requires.has_state; key_nonzero = omega arith }
+
+pub returns : goal.returns
+returns c = laws.deleted laws.observed_roster c.args.name.bytes c.args.work.now c.remove_in.new.work c.requires.named c.if-open-eq0.false c.remove_in.ensures

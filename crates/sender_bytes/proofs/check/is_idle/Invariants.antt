@@ -1,0 +1,13 @@
+use Prim.Native.Nat.{◌-◌}
+use mathlib.Core.Path.{◌≡◌}
+use lib.ListN.{drop}
+use Rattle.model.specs.WellFormed.{all}
+use Rattle.sender_turns.specs.Sender.{mills}
+use Rattle.sender_bytes.specs.Check.{is_idle}
+use Rattle.sender_bytes.proofs.check.is_idle.Given as goal
+
+abbrev pub invariant-loop-i : goal.invariant-loop-i
+invariant-loop-i l = all is_idle l.lanes ≡ all is_idle (drop l.i l.lanes)
+
+abbrev pub decreases-loop-i : goal.decreases-loop-i
+decreases-loop-i l = mills - l.i

@@ -1,0 +1,20 @@
+use mathlib.Core.Path.{refl, ◌∙◌}
+use Rattle.state.proofs.Columns as columns
+use Rattle.state.proofs.Ops as ops
+use Rattle.staged.proofs.Laws as laws
+use native.Mathlib.Omega.{arith}
+use Rattle.staged.proofs.stage_byte.Goals as goal
+
+pub returns-then-open-eq0 : goal.returns-then-open-eq0
+returns-then-open-eq0 c = λ v ok e. laws.stage_closed _ v c.args.work.now c.if-open-eq0.true
+
+pub put_slot-requires : goal.put_slot-requires
+put_slot-requires c =
+    let a = ops.named_long c.args.name.bytes c.requires.named in
+    omega arith
+
+pub insert_in-requires : goal.insert_in-requires
+insert_in-requires c = record { lent = columns.has_lent laws.staged_column c.requires.has_state; slot_len = (c.put_slot-2.auto.region ∙ c.put_slot.auto.region, omega arith, omega arith) }
+
+pub returns : goal.returns
+returns c = laws.byte_tries c.args.name.bytes _ c.put_slot.new.region c.put_slot-2.new.region c.args.work.now c.insert_in.new.work c.args.first _ c.requires.named c.if-open-eq0.false refl c.put_slot.ensures c.put_slot-2.ensures c.insert_in.ensures

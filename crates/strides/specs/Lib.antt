@@ -1,2 +1,0 @@
--- What the walk over a table's slots gives.
-pub mod Walk

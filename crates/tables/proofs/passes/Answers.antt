@@ -1,0 +1,11 @@
+use Rattle.tables.proofs.Laws as laws
+use Rattle.tables.proofs.passes.Goals as goal
+
+pub returns-in-Less : goal.returns-in-Less
+returns-in-Less c = laws.kept_is c.args.region.now c.args.pattern.now c.args.at c.args.above c.compare-o.ensures c.in-Less.is
+
+pub returns-in-Equal : goal.returns-in-Equal
+returns-in-Equal c = laws.kept_is c.args.region.now c.args.pattern.now c.args.at c.args.above c.compare-o.ensures c.in-Equal.is
+
+pub returns-in-Greater : goal.returns-in-Greater
+returns-in-Greater c = laws.kept_is c.args.region.now c.args.pattern.now c.args.at c.args.above c.compare-o.ensures c.in-Greater.is
