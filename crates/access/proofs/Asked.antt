@@ -1,8 +1,8 @@
 -- What is asked of a buffer, by whether it holds a well-formed state: the states' bytes as the code has them are the definitions'. Assumes nothing.
+use Rattle.std.specs.Prelude.{Option, Some, None}
 use Prim.Native.Nat.{ℕ}
 use mathlib.Core.Path.{◌≡◌, refl}
 use mathlib.Core.List.{List}
-use mathlib.Core.Option.{Option, none, some}
 use lib.ListN.{length}
 use borrow.Author.Tests.{eq-eqb, ne_eqb}
 use Rattle.model.specs.State.{SyncState, new}
@@ -29,8 +29,8 @@ module _ {A : Type 0} (f : SyncState → A) (missing : A) (b : List ℕ) where
   asked_other l g = rw (eq-eqb (length b) state_length l) (go (read_state document01 b) refl)
     where
       go : (o : Option SyncState) → read_state document01 b ≡ o → ◌≡◌ {A = ℕ × A} (match o none: (2, missing) some: (λ s. (0, f s))) (2, missing)
-      go none e = refl
-      go (some s) e = absurd (g (is_read e))
+      go None e = refl
+      go (Some s) e = absurd (g (is_read e))
 
   pub asked_state : length b ≡ state_length → (I : IsState b) → asked f missing b ≡ (0, f I.state)
   unfolding asked when◌then◌else◌ match◌none:◌some:◌

@@ -1,10 +1,12 @@
 -- What the functions of this crate cite: each law's premises are what the callees ensure. Assumes nothing.
+use Rattle.std.specs.Prelude.{Option, Some, None, cond, count_by, filter as pick}
+use Rattle.std.proofs.lemmas.List.Sums.{length-filter}
+use Rattle.format.proofs.Options.{None-ne-Some}
 use Prim.Native.Nat.{ℕ, zero, suc, ◌+◌, ◌-◌, ◌*◌, ◌≤◌, ◌<◌, Ordering}
 use native.Mathlib.Nat.{not-suc-le-zero, le_of_suc-le-suc}
 use native.Mathlib.Omega.{arith}
 use mathlib.Core.Path.{◌≡◌, refl, sym, ap, ap₂, ◌∙◌, subst}
 use mathlib.Core.List.{List, [], ◌∷◌, ◌++◌}
-use mathlib.Core.Option.{Option, none, some, none-ne-some}
 use mathlib.Core.Bool.{Bool, true, false}
 use lib.ListN.{length, take, drop, get_or, length-drop}
 use lib.Seq.{take_at, drop_at, take_all, get_or-take, get_or-drop, length-take-le}
@@ -14,7 +16,7 @@ use Rattle.format.specs.Format.{option, via, enum, ◌∣◌, nothing, text as t
 use Rattle.format.proofs.SizeLaws.{length_digits}
 use Rattle.spans.specs.Bytes.{zeros}
 use Rattle.spans.specs.Compare.{order}
-use Rattle.spans.specs.declared.Order.{Order}
+use Rattle.std.specs.Ordering.{is_eq}
 use Rattle.numbers.specs.Big.{from_be}
 use Rattle.tables.specs.Table.{Table, slots_of, text, is_equal}
 use Rattle.tables.proofs.Laws as tables
@@ -47,7 +49,6 @@ use Rattle.state.proofs.Columns as columns
 use Rattle.state.proofs.Ops as ops
 use Rattle.records.proofs.Laws.{record_column}
 use Rattle.wellformed.specs.IsState.{IsState}
-use Rattle.wellformed.specs.Tests.{one, count_slots}
 use Rattle.wellformed.proofs.States.{keeps_of, entries_are}
 use Rattle.wellformed.proofs.Flights.{same_order, slot_text}
 use Rattle.access.proofs.Asked.{asked_short, asked_other, asked_state, freshened_short, freshened_made}
@@ -127,13 +128,13 @@ plus_zero n = omega arith
 zero_plus : (n : ℕ) → 0 + n ≡ n
 zero_plus n = omega arith
 
-pub nth_past : {A : Type 0} (i : ℕ) (l : List A) → length l ≤ i → none ≡ nth i l
+pub nth_past : {A : Type 0} (i : ℕ) (l : List A) → length l ≤ i → None ≡ nth i l
 unfolding nth
 nth_past i [] h = refl
 nth_past zero (x ∷ l) h = absurd (not-suc-le-zero h)
 nth_past (suc i) (x ∷ l) h = nth_past i l (le_of_suc-le-suc h)
 
-pub nth_get_d : {A : Type 0} (d : A) (i : ℕ) (l : List A) → i < length l → nth i l ≡ some (get_or l i d)
+pub nth_get_d : {A : Type 0} (d : A) (i : ℕ) (l : List A) → i < length l → nth i l ≡ Some (get_or l i d)
 unfolding nth
 nth_get_d d i [] h = absurd (not-suc-le-zero h)
 nth_get_d d zero (x ∷ l) h = refl
@@ -141,17 +142,11 @@ nth_get_d d (suc i) (x ∷ l) h = nth_get_d d i l (le_of_suc-le-suc h)
 
 -- ---- the waiting entries
 
-pub of_is : (slot resource : List ℕ) (n : ℕ) (o w : Order) → take n (drop 1 slot) ≡ text slot → o ≡ order (take (n + 1 - 1) (drop 1 slot)) resource → o ≡ w → is_equal w ≡ is_of resource slot
+pub of_is : (slot resource : List ℕ) (n : ℕ) → take n (drop 1 slot) ≡ text slot → is_eq (order (take (n + 1 - 1) (drop 1 slot)) resource) ≡ is_of resource slot
 unfolding is_of
-of_is slot resource n o w t e h =
+of_is slot resource n t =
     let k : n + 1 - 1 ≡ n = omega arith in
-    ap is_equal (sym h ∙ e ∙ ap (λ (x : List ℕ). order x resource) (ap (λ (m : ℕ). take m (drop 1 slot)) k ∙ t))
-
-pub of_at : (r resource : List ℕ) (at : ℕ) (b : Bool) → b ≡ is_of resource (take (at + 5940 - at) (drop at r)) → b ≡ is_of resource (take 5940 (drop at r))
-of_at r resource at b e = e ∙ ap (is_of resource) (tables.part_is r 5940 at)
-
-pub count_at : (r resource : List ℕ) (at n : ℕ) → n ≡ count_slots (is_of resource) (slots_of 5940 (take (at + 35641 - at) (drop at r))) → n ≡ count_slots (is_of resource) (slots_of 5940 (part at 35641 r))
-count_at r resource at n e = e ∙ ap (λ (x : List ℕ). count_slots (is_of resource) (slots_of 5940 x)) (tables.part_is r 35641 at)
+    ap (λ (x : List ℕ). is_equal (order x resource)) (ap (λ (m : ℕ). take m (drop 1 slot)) k ∙ t)
 
 -- entries of a queue, if it is the resource's
 abbrev share : Bool → ℕ → ℕ
@@ -162,22 +157,22 @@ shares : ResourceId → Map ResourceId Queue → ℕ
 shares r [] = 0
 shares r (e ∷ m) = share (same_text e.0 r) (length e.1) + shares r m
 
-queue_count : (r k : ResourceId) (q : Queue) (t : Table) → count_slots (is_of r) (map (pending_slot document01 k) q ++ t) ≡ share (same_text k r) (length q) + count_slots (is_of r) t
-unfolding count_slots map is_of
+queue_count : (r k : ResourceId) (q : Queue) (t : Table) → length (pick (is_of r) (map (pending_slot document01 k) q ++ t)) ≡ share (same_text k r) (length q) + length (pick (is_of r) t)
+unfolding map is_of
 queue_count r k [] t = go (same_text k r)
   where
-    go : (b : Bool) → count_slots (is_of r) t ≡ share b 0 + count_slots (is_of r) t
+    go : (b : Bool) → length (pick (is_of r) t) ≡ share b 0 + length (pick (is_of r) t)
     go true = omega arith
     go false = omega arith
 queue_count r k (p ∷ q) t = rw (slot_text k p, same_order k r) (go (same_text k r) (queue_count r k q t))
   where
-    go : (b : Bool) → count_slots (is_of r) (map (pending_slot document01 k) q ++ t) ≡ share b (length q) + count_slots (is_of r) t
-        → one b + count_slots (is_of r) (map (pending_slot document01 k) q ++ t) ≡ share b (suc (length q)) + count_slots (is_of r) t
+    go : (b : Bool) → length (pick (is_of r) (map (pending_slot document01 k) q ++ t)) ≡ share b (length q) + length (pick (is_of r) t)
+        → length (cond b (pending_slot document01 k p ∷ pick (is_of r) (map (pending_slot document01 k) q ++ t)) (pick (is_of r) (map (pending_slot document01 k) q ++ t))) ≡ share b (suc (length q)) + length (pick (is_of r) t)
     go true e = omega arith
-    go false e = omega arith
+    go false e = e
 
-count_shares : (r : ResourceId) (m : Map ResourceId Queue) → count_slots (is_of r) (edit_slots document01 m) ≡ shares r m
-unfolding count_slots edit_slots shares
+count_shares : (r : ResourceId) (m : Map ResourceId Queue) → length (pick (is_of r) (edit_slots document01 m)) ≡ shares r m
+unfolding edit_slots shares
 count_shares r [] = refl
 count_shares r (e ∷ m) = queue_count r e.0 e.1 (edit_slots document01 m) ∙ ap (λ (n : ℕ). share (same_text e.0 r) (length e.1) + n) (count_shares r m)
 
@@ -198,15 +193,15 @@ unfolding keys map
 keys_of e m t = t
 
 -- a resource without a queue has no share
-no_share : (r : ResourceId) (m : Map ResourceId Queue) → T (rising by_name (keys m)) → get by_name r m ≡ none → shares r m ≡ 0
+no_share : (r : ResourceId) (m : Map ResourceId Queue) → T (rising by_name (keys m)) → get by_name r m ≡ None → shares r m ≡ 0
 unfolding shares get by
 no_share r [] t g = refl
 no_share r (e ∷ m) t g = go (by_name r e.0) refl g (no_share r m (rising_tail by_name name_order e.0 m (keys_of e m t)))
   where
-    go : (o : Ordering) → by_name r e.0 ≡ o → by o none (some e.1) (get by_name r m) ≡ none → (get by_name r m ≡ none → shares r m ≡ 0)
+    go : (o : Ordering) → by_name r e.0 ≡ o → by o None (Some e.1) (get by_name r m) ≡ None → (get by_name r m ≡ None → shares r m ≡ 0)
         → share (same_text e.0 r) (length e.1) + shares r m ≡ 0
     go Ordering.lt o g f = rw (not_same e.0 r o, f (get_below by_name name_order r e.0 m o (keys_of e m t)))
-    go Ordering.eq o g f = absurd (none-ne-some e.1 (sym g))
+    go Ordering.eq o g f = absurd (None-ne-Some e.1 (sym g))
     go Ordering.gt o g f = rw (not_same_gt e.0 r o, f g)
 
 shares_is : (r : ResourceId) (m : Map ResourceId Queue) → T (rising by_name (keys m)) → shares r m ≡ (match get by_name r m none: 0 some: (λ queue. length queue))
@@ -215,30 +210,30 @@ shares_is r [] t = refl
 shares_is r (e ∷ m) t = go (by_name r e.0) refl (shares_is r m (rising_tail by_name name_order e.0 m (keys_of e m t)))
   where
     go : (o : Ordering) → by_name r e.0 ≡ o → shares r m ≡ (match get by_name r m none: 0 some: (λ queue. length queue))
-        → share (same_text e.0 r) (length e.1) + shares r m ≡ (match by o none (some e.1) (get by_name r m) none: 0 some: (λ queue. length queue))
+        → share (same_text e.0 r) (length e.1) + shares r m ≡ (match by o None (Some e.1) (get by_name r m) none: 0 some: (λ queue. length queue))
     go Ordering.lt o f = rw (not_same e.0 r o, no_share r m (rising_tail by_name name_order e.0 m (keys_of e m t)) (get_below by_name name_order r e.0 m o (keys_of e m t)))
     go Ordering.eq o f =
         let j : r ≡ e.0 = name_order.same r e.0 o in
-        let g : get by_name r m ≡ none = subst (λ (x : ResourceId). get by_name x m ≡ none) (sym j) (get_first by_name name_order e.0 m (keys_of e m t)) in
+        let g : get by_name r m ≡ None = subst (λ (x : ResourceId). get by_name x m ≡ None) (sym j) (get_first by_name name_order e.0 m (keys_of e m t)) in
         let z : shares r m ≡ 0 = no_share r m (rising_tail by_name name_order e.0 m (keys_of e m t)) g in
         rw (is_same e.0 r o, z) (plus_zero (length e.1))
     go Ordering.gt o f = rw (not_same_gt e.0 r o) (zero_plus (shares r m) ∙ f)
 
-pub waiting_is : (w resource : List ℕ) (n : ℕ) → n ≡ count_slots (is_of resource) (slots_of 5940 (part 20002 35641 w)) → Reads (waiting_count resource) w n
+pub waiting_is : (w resource : List ℕ) (n : ℕ) → n ≡ count_by (is_of resource) (slots_of 5940 (part 20002 35641 w)) → Reads (waiting_count resource) w n
 unfolding waiting_count
 waiting_is w resource n e = record {
-  is = λ s K. e ∙ ap (count_slots (is_of resource)) (entries_are K) ∙ count_shares resource s.edits ∙ shares_is resource s.edits K.fits.edits.rises;
+  is = λ s K. e ∙ ap (count_by (is_of resource)) (entries_are K) ∙ sym (length-filter (is_of resource) (edit_slots document01 s.edits)) ∙ count_shares resource s.edits ∙ shares_is resource s.edits K.fits.edits.rises;
 }
 
 -- ---- the numbers in flight
 
-key_at : (i : ℕ) (m : Map RequestId Purpose) (d : RequestId × Purpose) → i < length m → nth i (keys m) ≡ some (get_or m i d).0
+key_at : (i : ℕ) (m : Map RequestId Purpose) (d : RequestId × Purpose) → i < length m → nth i (keys m) ≡ Some (get_or m i d).0
 unfolding nth keys map
 key_at i [] d h = absurd (not-suc-le-zero h)
 key_at zero (e ∷ m) d h = refl
 key_at (suc i) (e ∷ m) d h = key_at i m d (le_of_suc-le-suc h)
 
-pub no_number : (w : List ℕ) (n i : ℕ) → Reads (λ s. length s.in_flight) w n → n ≤ i → Reads (λ s. nth i (keys s.in_flight)) w none
+pub no_number : (w : List ℕ) (n i : ℕ) → Reads (λ s. length s.in_flight) w n → n ≤ i → Reads (λ s. nth i (keys s.in_flight)) w None
 no_number w n i R h = record {
   is = λ s K.
       let e = R.is s K in
@@ -249,7 +244,7 @@ no_number w n i R h = record {
 first_flight : RequestId × Purpose
 first_flight = (0, Purpose.List)
 
-pub number_read : (w : List ℕ) (n i v : ℕ) → Reads (λ s. length s.in_flight) w n → i < n → v ≡ from_be 0 (take 8 (drop (55645 + i * 43) w)) → Reads (λ s. nth i (keys s.in_flight)) w (some v)
+pub number_read : (w : List ℕ) (n i v : ℕ) → Reads (λ s. length s.in_flight) w n → i < n → v ≡ from_be 0 (take 8 (drop (55645 + i * 43) w)) → Reads (λ s. nth i (keys s.in_flight)) w (Some v)
 unfolding number number_key
 number_read w n i v R h e = record {
   is = λ s K.
@@ -260,7 +255,7 @@ number_read w n i v R h e = record {
       let a : 55645 + i * 43 ≡ 55643 + (1 + i * 43) + 1 = omega arith in
       let b : take 8 (drop (55645 + i * 43) w) ≡ big_endian 8 f.0 = ap (λ (x : ℕ). take 8 (drop x w)) a ∙ tables.field_of w 43 (55643 + (1 + i * 43)) 1 8 (omega arith)
       ∙ ap (λ (x : List ℕ). take 8 (drop 1 x)) N.0 ∙ take_at (big_endian 8 f.0) (field 34 purpose_f f.1) 8 (length_digits 8 f.0) in
-      ap some (e ∙ ap (from_be 0) b ∙ from_digits f.0 N.2.0) ∙ sym (key_at i s.in_flight first_flight k);
+      ap Some (e ∙ ap (from_be 0) b ∙ from_digits f.0 N.2.0) ∙ sym (key_at i s.in_flight first_flight k);
 }
 
 -- where a place is in the buffer
@@ -276,29 +271,29 @@ flight_room w n i H R h =
 pub byte_in : (w : List ℕ) (at size k : ℕ) → k < size → get_or w (at + k) 0 ≡ get_or (part at size w) k 0
 byte_in w at size k h = sym (get_or-take size (drop at w) k 0 h ∙ get_or-drop at w k 0)
 
-pub cursor_none : (w : List ℕ) → get_or w 9151 0 ≡ 0 → Reads (λ s. s.cursor) w none
+pub cursor_none : (w : List ℕ) → get_or w 9151 0 ≡ 0 → Reads (λ s. s.cursor) w None
 unfolding option via enum ◌∣◌ nothing padded
 cursor_none w e = record { is = λ s K. go s.cursor (parts.cursor_part s w K) }
   where
-    go : (c : Option Text) → part 9151 34 w ≡ field 34 (option short_text) c → none ≡ c
-    go none p = refl
-    go (some t) p =
+    go : (c : Option Text) → part 9151 34 w ≡ field 34 (option short_text) c → None ≡ c
+    go None p = refl
+    go (Some t) p =
         absurd (let z : 0 ≡ 1 = sym e ∙ byte_in w 9151 34 0 (omega arith) ∙ ap (λ (x : List ℕ). get_or x 0 0) p in omega arith)
 
-pub cursor_some : (w : List ℕ) (n : ℕ) → (get_or w 9151 0 ≡ 0 → ⊥) → n ≡ get_or w 9152 0 → Reads (λ s. s.cursor) w (some (part 9153 n w))
+pub cursor_some : (w : List ℕ) (n : ℕ) → (get_or w 9151 0 ≡ 0 → ⊥) → n ≡ get_or w 9152 0 → Reads (λ s. s.cursor) w (Some (part 9153 n w))
 unfolding option via enum ◌∣◌ nothing padded text-format max_text
 cursor_some w n g e = record { is = λ s K. go s.cursor K.fits.cursor (parts.cursor_part s w K) }
   where
-    go : (c : Option Text) → (option short_text).Ok c → part 9151 34 w ≡ field 34 (option short_text) c → some (part 9153 n w) ≡ c
-    go none ok p = absurd (g (byte_in w 9151 34 0 (omega arith) ∙ ap (λ (x : List ℕ). get_or x 0 0) p))
-    go (some t) ok p =
+    go : (c : Option Text) → (option short_text).Ok c → part 9151 34 w ≡ field 34 (option short_text) c → Some (part 9153 n w) ≡ c
+    go None ok p = absurd (g (byte_in w 9151 34 0 (omega arith) ∙ ap (λ (x : List ℕ). get_or x 0 0) p))
+    go (Some t) ok p =
         let l : n ≡ length t = e ∙ byte_in w 9151 34 1 (omega arith) ∙ ap (λ (x : List ℕ). get_or x 1 0) p in
         let h : length t ≤ 32 = ok.0 in
-        ap some (tables.field_of w 34 9151 2 n (omega arith) ∙ ap (λ (x : List ℕ). take n (drop 2 x)) p ∙ take_at t (zeros (34 - suc (suc (length t)))) n (sym l))
+        ap Some (tables.field_of w 34 9151 2 n (omega arith) ∙ ap (λ (x : List ℕ). take n (drop 2 x)) p ∙ take_at t (zeros (34 - suc (suc (length t)))) n (sym l))
 
 -- ---- the records
 
-pub no_record : (w : List ℕ) (n i : ℕ) → Reads (λ s. length s.records) w n → n ≤ i → Reads (λ s. record_bytes (nth i s.records)) w none
+pub no_record : (w : List ℕ) (n i : ℕ) → Reads (λ s. length s.records) w n → n ≤ i → Reads (λ s. record_bytes (nth i s.records)) w None
 unfolding record_bytes
 no_record w n i R h = record {
   is = λ s K.
@@ -344,7 +339,7 @@ some_entry i [] h = absurd (not-suc-le-zero h)
 some_entry i (x ∷ l) h = x
 
 pub record_read : (w : List ℕ) (n i size extent : ℕ) → Reads (λ s. length s.records) w n → i < n → size ≡ get_or w (1 + i * 915) 0 → extent ≡ (skips event_f (part (34 + i * 915) 882 w) start).at
-    → Reads (λ s. record_bytes (nth i s.records)) w (some (part (2 + i * 915) size w, part (34 + i * 915) extent w))
+    → Reads (λ s. record_bytes (nth i s.records)) w (Some (part (2 + i * 915) size w, part (34 + i * 915) extent w))
 unfolding record_bytes
 record_read w n i size extent R h p q = record {
   is = λ s K.
@@ -367,7 +362,7 @@ record_read w n i size extent R h p q = record {
       let v : length (event_f.enc f.1) ≤ 882 = event_within.bytes f.1 N.2.1 in
       let event : part (34 + i * 915) extent w ≡ event_f.enc f.1 = ap₂ (λ (x m : ℕ). take m (drop x w)) a2 x ∙ tables.field_of w 915 (1 + i * 915) 33 (length (event_f.enc f.1)) (omega arith)
       ∙ ap (λ (x : List ℕ). take (length (event_f.enc f.1)) (drop 33 x)) b ∙ ap (take (length (event_f.enc f.1))) (event_in f N.2) ∙ event_bytes f N.2 in
-      ap₂ (λ (x y : List ℕ). some (x, y)) name event ∙ sym (ap record_bytes (nth_get_d d i s.records k));
+      ap₂ (λ (x y : List ℕ). Some (x, y)) name event ∙ sym (ap record_bytes (nth_get_d d i s.records k));
 }
 
 pub event_at : (w : List ℕ) (at : ℕ) (c : Cursor) → c ≡ skips event_f (take (at + 882 - at) (drop at w)) start → c.at ≡ (skips event_f (part at 882 w) start).at

@@ -1,7 +1,6 @@
 -- What the reading functions answer, for any bytes: refusal 1 where the length is wrong, else 2 where they are not those of a
 -- well-formed state, else what is asked of the state. Assumes nothing.
-use Rattle.std.specs.Prelude.{ℕ, zero, suc, ◌≡◌, Bool, true, false, List, [], ◌∷◌, length, eqb}
-use Rattle.std.proofs.Math.Option.{Option, none, some}
+use Rattle.std.specs.Prelude.{ℕ, zero, suc, ◌≡◌, Bool, true, false, List, [], ◌∷◌, length, eqb, Option, Some, None}
 use Rattle.spans.specs.Compare.{order}
 use Rattle.tables.specs.Table.{text, is_equal}
 use Rattle.model.specs.Event.{ProviderEvent}
@@ -42,24 +41,24 @@ pub record Checked (b : List ℕ) (code : ℕ) : Type 0 where
 
 -- the entry at a place in order
 unfoldable pub nth : {A : Type 0} → ℕ → List A → Option A
-nth i [] = none
-nth zero (x ∷ l) = some x
+nth i [] = None
+nth zero (x ∷ l) = Some x
 nth (suc i) (x ∷ l) = nth i l
 
 -- whether there is a number, and the number or 0
 unfoldable pub numbered : Option ℕ → Bool × ℕ
-numbered none = (false, 0)
-numbered (some n) = (true, n)
+numbered None = (false, 0)
+numbered (Some n) = (true, n)
 
 -- a record's resource, and its event's bytes in the frame's form
 unfoldable pub record_bytes : Option (ResourceId × ProviderEvent) → Option (List ℕ × List ℕ)
-record_bytes none = none
-record_bytes (some e) = some (e.0, event_f.enc e.1)
+record_bytes None = None
+record_bytes (Some e) = Some (e.0, event_f.enc e.1)
 
 -- a queue's resource, and how many entries wait in it
 unfoldable pub queue_count : Option (ResourceId × Queue) → Option (ResourceId × ℕ)
-queue_count none = none
-queue_count (some e) = some (e.0, length e.1)
+queue_count None = None
+queue_count (Some e) = Some (e.0, length e.1)
 
 -- a slot of a waiting entry of the resource
 unfoldable pub is_of : List ℕ → List ℕ → Bool

@@ -1,8 +1,7 @@
 // What a state says of itself, for any lent bytes: no function here asks anything of them.
 #![tactic(auto)]
 
-ghost use Rattle.std.specs.Prelude.{◌≡◌, false, ◌+◌, ◌≤◌, ◌<◌, length, take, drop, get_or};
-ghost use Rattle.std.proofs.Math.Option.{none};
+ghost use Rattle.std.specs.Prelude.{◌≡◌, false, ◌+◌, ◌≤◌, ◌<◌, length, take, drop, get_or, count_by, None};
 ghost use Rattle.tables.specs.Table.{Holds, slots_of};
 ghost use Rattle.lent.specs.Lent.{part};
 ghost use Rattle.frame.specs.Read.{start, skips, kept};
@@ -10,13 +9,8 @@ ghost use Rattle.model.specs.Maps.{keys};
 ghost use Rattle.model.specs.Formats.{event_f};
 ghost use Rattle.model.specs.Demands.{waiting_count};
 ghost use Rattle.state.specs.Contract.{HasState, Reads};
-ghost use Rattle.state.specs.Values.{number_in};
-ghost use Rattle.wellformed.specs.Tests.{count_slots};
 ghost use Rattle.access.specs.Answers.{Checked, Answers, Freshened, nth, numbered, record_bytes, queue_count, is_of};
 
-use spans::Order;
-use state::Numbered;
-use tables::Place;
 use wellformed::STATE;
 
 pub const REFUSED_LENGTH: u8 = 1;
@@ -67,56 +61,24 @@ fn is_of(slot: &[u8], resource: &[u8]) -> bool
     ensures { result ≡ is_of resource.now slot.now }
 {
     let end = tables::text_len(slot) + 1;
-    let o = spans::compare(&slot[1..end], resource);
-    match o {
-        Order::Less => {
-            return false;
-        }
-        Order::Equal => {
-            return true;
-        }
-        Order::Greater => {
-            return false;
-        }
-    }
+    &slot[1..end] == resource
 }
 
-fn is_of_at(entries: &[u8], at: usize, resource: &[u8]) -> bool
-    requires { at + 5940 ≤ length entries.now }
-    ensures { result ≡ is_of resource.now (take 5940 (drop at entries.now)) }
-{
-    let end = at + ENTRY;
-    is_of(&entries[at..end], resource)
-}
-
+// How many entries are the resource's.
 fn count_of(entries: &[u8], resource: &[u8]) -> usize
     requires { Holds 5940 entries.now }
-    ensures { result ≡ count_slots (is_of resource.now) (slots_of 5940 entries.now) }
+    ensures { result ≡ count_by (is_of resource.now) (slots_of 5940 entries.now) }
 {
-    let mut left = entries[0] as usize;
-    let mut at = 1;
-    let mut n: usize = 0;
-    while 0 < left {
-        n += wellformed::bit(is_of_at(entries, at, resource));
-        at += ENTRY;
-        left -= 1;
-    }
-    n
-}
-
-fn count_of_at(state: &[u8], at: usize, resource: &[u8]) -> usize
-    requires { (at + 35641 ≤ length state.now) × Holds 5940 (part at 35641 state.now) }
-    ensures { result ≡ count_slots (is_of resource.now) (slots_of 5940 (part at 35641 state.now)) }
-{
-    let end = at + ENTRIES;
-    count_of(&state[at..end], resource)
+    strides::slots(entries, ENTRY)
+        .filter(|slot| is_of(slot, resource))
+        .count()
 }
 
 fn waiting(state: &[u8], resource: &[u8]) -> usize
     requires { HasState state.now }
     ensures { Reads (waiting_count resource.now) state.now result }
 {
-    count_of_at(state, WAITING, resource)
+    count_of(&state[WAITING..WAITING + ENTRIES], resource)
 }
 
 // How many entries wait in the resource's queue. Bytes that are no resource's name have no queue.
@@ -144,18 +106,18 @@ pub struct NumberAnswer {
     pub number: u64,
 }
 
-fn flight(state: &[u8], i: usize) -> Numbered
+fn flight(state: &[u8], i: usize) -> Option<u64>
     requires { HasState state.now }
-    ensures { Reads (λ s. nth i (keys s.in_flight)) state.now (number_in result) }
+    ensures { Reads (λ s. nth i (keys s.in_flight)) state.now result }
 {
     let n = state::in_flight_count(state);
     if n <= i {
-        return Numbered::Nothing;
+        return None;
     }
     let past = i * FLIGHT;
     let at = FIRST_NUMBER + past;
     let number = numbers::get_be(state, at);
-    Numbered::Is(number)
+    Some(number)
 }
 
 // The number in flight at a place in their order.
@@ -170,22 +132,17 @@ pub fn in_flight_at(state: &[u8], i: usize) -> NumberAnswer
             number: 0,
         };
     }
-    let p = flight(state, i);
-    match p {
-        Numbered::Nothing => {
-            return NumberAnswer {
-                code,
-                found: false,
-                number: 0,
-            };
-        }
-        Numbered::Is(number) => {
-            return NumberAnswer {
-                code,
-                found: true,
-                number,
-            };
-        }
+    match flight(state, i) {
+        None => NumberAnswer {
+            code,
+            found: false,
+            number: 0,
+        },
+        Some(number) => NumberAnswer {
+            code,
+            found: true,
+            number,
+        },
     }
 }
 
@@ -243,7 +200,7 @@ fn cursor_text(state: &[u8]) -> TextAnswer
 
 // The cursor's text, by its place in the buffer.
 pub fn cursor(state: &[u8]) -> TextAnswer
-    ensures { Answers (λ s. s.cursor) none state.now result.code (kept result.found (part result.text.at result.text.length state.now)) × (result.text.at + result.text.length ≤ length state.now) }
+    ensures { Answers (λ s. s.cursor) None state.now result.code (kept result.found (part result.text.at result.text.length state.now)) × (result.text.at + result.text.length ≤ length state.now) }
 {
     let code = refusal(state);
     if code != 0 {
@@ -320,7 +277,7 @@ fn record_bytes(state: &[u8], i: usize) -> RecordAnswer
 
 // The record at a place in their order: its resource, and its event in the frame's form, by their places in the buffer.
 pub fn record_at(state: &[u8], i: usize) -> RecordAnswer
-    ensures { Answers (λ s. record_bytes (nth i s.records)) none state.now result.code (kept result.found (part result.name.at result.name.length state.now, part result.event.at result.event.length state.now)) × (result.name.at + result.name.length ≤ length state.now) × (result.event.at + result.event.length ≤ length state.now) }
+    ensures { Answers (λ s. record_bytes (nth i s.records)) None state.now result.code (kept result.found (part result.name.at result.name.length state.now, part result.event.at result.event.length state.now)) × (result.name.at + result.name.length ≤ length state.now) × (result.event.at + result.event.length ≤ length state.now) }
 {
     let code = refusal(state);
     if code != 0 {
@@ -360,13 +317,11 @@ fn queue_bytes(state: &[u8], i: usize) -> QueueAnswer
     ensures { (result.code ≡ 0) × Reads (λ s. queue_count (nth i s.edits)) state.now (kept result.found (part result.name.at result.name.length state.now, result.count)) × (result.name.at + result.name.length ≤ length state.now) }
 {
     let names = waiting::resources(state);
-    let n = names.count;
-    if n <= i {
+    if names.len() <= i {
         return no_queue(0);
     }
-    let name = waiting::resource_name(names, i);
-    let head = waiting::find_entry(state, name, 0);
-    let Place::Found(at) = head else {
+    let name = names.name(i);
+    let Some(at) = waiting::find_entry(state, name, 0) else {
         return no_queue(0);
     };
     let length = byte_at(state, at);
@@ -381,7 +336,7 @@ fn queue_bytes(state: &[u8], i: usize) -> QueueAnswer
 
 // The queue at a place in the order of their resources: its resource, by its place in the buffer, and how many entries wait in it.
 pub fn queue_at(state: &[u8], i: usize) -> QueueAnswer
-    ensures { Answers (λ s. queue_count (nth i s.edits)) none state.now result.code (kept result.found (part result.name.at result.name.length state.now, result.count)) × (result.name.at + result.name.length ≤ length state.now) }
+    ensures { Answers (λ s. queue_count (nth i s.edits)) None state.now result.code (kept result.found (part result.name.at result.name.length state.now, result.count)) × (result.name.at + result.name.length ≤ length state.now) }
 {
     let code = refusal(state);
     if code != 0 {

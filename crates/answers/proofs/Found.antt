@@ -1,8 +1,8 @@
 -- The answers to the reads of edits, branch by branch. Assumes nothing.
+use Rattle.std.specs.Prelude.{Option, Some, None}
 use Prim.Native.Nat.{ℕ}
 use mathlib.Core.Path.{◌≡◌, refl, sym, ap, ◌∙◌, subst}
 use mathlib.Core.List.{List, [], ◌∷◌}
-use mathlib.Core.Option.{Option, none, some}
 use mathlib.Core.Bool.{Bool, true, false, not, ◌&&◌, ◌||◌}
 use lib.Dec.{ltb}
 use lib.ListN.{length}
@@ -21,6 +21,7 @@ use Rattle.frame.specs.declared.Cursor.{Cursor}
 use Rattle.frame.specs.declared.Outcome as outcome
 use Rattle.frame.specs.declared.Outcome.TheVariants as outcomes
 use Rattle.frame.specs.declared.Failure as failure
+use Rattle.frame.specs.declared.Failure.TheVariants as failures
 use Rattle.values.specs.Parts.{meant_listed}
 use Rattle.values.specs.declared.Listed.{Listed}
 use Rattle.values.specs.declared.Listed.TheVariants.{Nothing, Event}
@@ -60,9 +61,9 @@ module _ (r : ResourceId) {w : List ℕ} {b : Bool} (L : Reads (λ s. is_some_an
   unfolding observe_missing when◌then◌else◌
   missing_key e C = record { does = λ o. runs.is_held {f = learn r} (observe_missing r) (λ m h. let y : looks_up r m ≡ true = looks_is m h.keeps ∙ e in sym (rw y)) (C.does o) }
 
-  pub missing_gone : {w' : List ℕ} {p q : Progress} → b ≡ false → Changes (observe r none) w p q w' → Changes (observe_missing r) w p q w'
+  pub missing_gone : {w' : List ℕ} {p q : Progress} → b ≡ false → Changes (observe r None) w p q w' → Changes (observe_missing r) w p q w'
   unfolding observe_missing when◌then◌else◌
-  missing_gone e C = record { does = λ o. runs.is_held {f = observe r none} (observe_missing r) (λ m h. let y : looks_up r m ≡ false = looks_is m h.keeps ∙ e in sym (rw y)) (C.does o) }
+  missing_gone e C = record { does = λ o. runs.is_held {f = observe r None} (observe_missing r) (λ m h. let y : looks_up r m ≡ false = looks_is m h.keeps ∙ e in sym (rw y)) (C.does o) }
 
 -- ---- edit_read_found
 
@@ -72,19 +73,19 @@ module _ (id : RequestId) (r : ResourceId) {w : List ℕ} {b : Bool} (D : Reads 
   overtaken theirs e d = runs.is (edit_read_found id r theirs) (λ m. refl)
       (runs.taken (λ m. (when not (is_some theirs) && looks_up r m then learn r m else observe r theirs m) >>= plan_head r theirs) D e d)
 
-  pub found_event : (t : ProviderEvent) {o w₁ o₁ w' o' : List ℕ} {p q u : Progress} → b ≡ false → Does (observe r (some t)) w o p q w₁ o₁ → Does (plan_head r (some t)) w₁ o₁ q u w' o' → Does (edit_read_found id r (some t)) w o p u w' o'
+  pub found_event : (t : ProviderEvent) {o w₁ o₁ w' o' : List ℕ} {p q u : Progress} → b ≡ false → Does (observe r (Some t)) w o p q w₁ o₁ → Does (plan_head r (Some t)) w₁ o₁ q u w' o' → Does (edit_read_found id r (Some t)) w o p u w' o'
   unfolding edit_read_found doubtful plan_head is_some when◌then◌else◌
-  found_event t e d f = runs.is (edit_read_found id r (some t)) (λ m. refl) (runs.left (λ m. when is_some (head r m) then read_for_edit r m else doubt r m) D e (runs.next d f))
+  found_event t e d f = runs.is (edit_read_found id r (Some t)) (λ m. refl) (runs.left (λ m. when is_some (head r m) then read_for_edit r m else doubt r m) D e (runs.next d f))
 
-  pub found_none : {o w₁ o₁ w' o' : List ℕ} {p q u : Progress} → b ≡ false → Does (observe_missing r) w o p q w₁ o₁ → Does (plan_head r none) w₁ o₁ q u w' o' → Does (edit_read_found id r none) w o p u w' o'
+  pub found_none : {o w₁ o₁ w' o' : List ℕ} {p q u : Progress} → b ≡ false → Does (observe_missing r) w o p q w₁ o₁ → Does (plan_head r None) w₁ o₁ q u w' o' → Does (edit_read_found id r None) w o p u w' o'
   unfolding edit_read_found doubtful plan_head observe_missing is_some
-  found_none e d f = runs.is (edit_read_found id r none) (λ m. refl) (runs.left (λ m. when is_some (head r m) then read_for_edit r m else doubt r m) D e (runs.next d f))
+  found_none e d f = runs.is (edit_read_found id r None) (λ m. refl) (runs.left (λ m. when is_some (head r m) then read_for_edit r m else doubt r m) D e (runs.next d f))
 
 module _ (id : RequestId) (r : ResourceId) (s : List ℕ) (at : ℕ) {w o w' o' : List ℕ} {p q : Progress} {next : Cursor} {listed : Listed} (M : Means next (meant_listed s listed) (option event_f) s (record { at = at; ok = true })) (k : (option event_f).Ok (option_event_at s at)) where
-  pub at_none : listed ≡ Nothing → Does (edit_read_found id r none) w o p q w' o' → Does (edit_read_found id r (option_event_at s at)) w o p q w' o'
+  pub at_none : listed ≡ Nothing → Does (edit_read_found id r None) w o p q w' o' → Does (edit_read_found id r (option_event_at s at)) w o p q w' o'
   at_none z d = subst (λ (x : Option ProviderEvent). Does (edit_read_found id r x) w o p q w' o') (sym (found_is s at next (meant_listed s listed) M k ∙ ap (meant_listed s) z)) d
 
-  pub at_event : (place : ℕ) → listed ≡ Event place → Does (edit_read_found id r (some (event_at s place))) w o p q w' o' → Does (edit_read_found id r (option_event_at s at)) w o p q w' o'
+  pub at_event : (place : ℕ) → listed ≡ Event place → Does (edit_read_found id r (Some (event_at s place))) w o p q w' o' → Does (edit_read_found id r (option_event_at s at)) w o p q w' o'
   at_event place z d = subst (λ (x : Option ProviderEvent). Does (edit_read_found id r x) w o p q w' o') (sym (found_is s at next (meant_listed s listed) M k ∙ ap (meant_listed s) z)) d
 
 -- ---- on_edit_read
@@ -98,41 +99,35 @@ rejecting r x m = go (queue_of r m)
     go [] = refl
     go (y ∷ l) = refl
 
+-- what is told
+pub other_outcome : (frame : List ℕ) (x : outcome.Outcome) → ((at : ℕ) → x ≡ outcomes.Read at → ⊥) → ((f : failure.Failure) → x ≡ outcomes.Failed f → ⊥) → answer (meant_outcome frame x) ≡ ReadAnswer.Other
+unfolding answer
+other_outcome frame (outcomes.Listed at) a b = refl
+other_outcome frame (outcomes.Read at) a b = absurd (a at refl)
+other_outcome frame (outcomes.Written at) a b = refl
+other_outcome frame outcomes.Deleted a b = refl
+other_outcome frame (outcomes.Failed f) a b = absurd (b f refl)
+
+pub other_failure : (frame : List ℕ) (x : failure.Failure) → (x ≡ failures.NotFound → ⊥) → (x ≡ failures.Transient → ⊥) → answer_failed (meant_failure frame x) ≡ ReadAnswer.Other
+unfolding answer_failed
+other_failure frame failures.CursorExpired a b = refl
+other_failure frame failures.PreconditionFailed a b = refl
+other_failure frame failures.NotFound a b = absurd (a refl)
+other_failure frame failures.AlreadyExists a b = refl
+other_failure frame failures.Transient a b = absurd (b refl)
+other_failure frame (failures.Rejected why) a b = refl
+
 module _ (id : RequestId) (r : ResourceId) {w o w' o' : List ℕ} {p q : Progress} where
   -- an outcome that is none of those that a read may have
-  pub other : (x : Outcome) → answer x ≡ ReadAnswer.Other → Does (finish r (some (Rejection.Provider (describe x)))) w o p q w' o' → Does (on_edit_read id r x) w o p q w' o'
+  pub other : (x : Outcome) → answer x ≡ ReadAnswer.Other → Does (finish r (Some (Rejection.Provider (describe x)))) w o p q w' o' → Does (on_edit_read id r x) w o p q w' o'
   unfolding on_edit_read edit_read_answered
-  other x e d = runs.is (on_edit_read id r x) (λ m. rejecting r (some (Rejection.Provider (describe x))) m ∙ sym (ap (λ (a : ReadAnswer). edit_read_answered id r x a m) e)) d
+  other x e d = runs.is (on_edit_read id r x) (λ m. rejecting r (Some (Rejection.Provider (describe x))) m ∙ sym (ap (λ (a : ReadAnswer). edit_read_answered id r x a m) e)) d
 
-  pub other_listed : (frame : List ℕ) (at : ℕ) → Does (finish r (some (Rejection.Provider (describe (meant_outcome frame (outcomes.Listed at)))))) w o p q w' o' → Does (on_edit_read id r (meant_outcome frame (outcomes.Listed at))) w o p q w' o'
+  pub other_failed : (x : Failure) → answer_failed x ≡ ReadAnswer.Other → Does (finish r (Some (Rejection.Provider (describe (Outcome.Failed x))))) w o p q w' o' → Does (read_failed id r x) w o p q w' o'
   unfolding answer
-  other_listed frame at d = other (meant_outcome frame (outcomes.Listed at)) refl d
+  other_failed x e d = other (Outcome.Failed x) e d
 
-  pub other_written : (frame : List ℕ) (at : ℕ) → Does (finish r (some (Rejection.Provider (describe (meant_outcome frame (outcomes.Written at)))))) w o p q w' o' → Does (on_edit_read id r (meant_outcome frame (outcomes.Written at))) w o p q w' o'
-  unfolding answer
-  other_written frame at d = other (meant_outcome frame (outcomes.Written at)) refl d
-
-  pub other_deleted : Does (finish r (some (Rejection.Provider (describe Outcome.Deleted)))) w o p q w' o' → Does (on_edit_read id r Outcome.Deleted) w o p q w' o'
-  unfolding answer
-  other_deleted d = other Outcome.Deleted refl d
-
-  pub failed_expired : Does (finish r (some (Rejection.Provider (describe (Outcome.Failed Failure.CursorExpired))))) w o p q w' o' → Does (read_failed id r Failure.CursorExpired) w o p q w' o'
-  unfolding answer answer_failed
-  failed_expired d = other (Outcome.Failed Failure.CursorExpired) refl d
-
-  pub failed_precondition : Does (finish r (some (Rejection.Provider (describe (Outcome.Failed Failure.PreconditionFailed))))) w o p q w' o' → Does (read_failed id r Failure.PreconditionFailed) w o p q w' o'
-  unfolding answer answer_failed
-  failed_precondition d = other (Outcome.Failed Failure.PreconditionFailed) refl d
-
-  pub failed_exists : Does (finish r (some (Rejection.Provider (describe (Outcome.Failed Failure.AlreadyExists))))) w o p q w' o' → Does (read_failed id r Failure.AlreadyExists) w o p q w' o'
-  unfolding answer answer_failed
-  failed_exists d = other (Outcome.Failed Failure.AlreadyExists) refl d
-
-  pub failed_rejected : (why : List ℕ) → Does (finish r (some (Rejection.Provider (describe (Outcome.Failed (Failure.Rejected why)))))) w o p q w' o' → Does (read_failed id r (Failure.Rejected why)) w o p q w' o'
-  unfolding answer answer_failed
-  failed_rejected why d = other (Outcome.Failed (Failure.Rejected why)) refl d
-
-  pub failed_gone : Does (edit_read_found id r none) w o p q w' o' → Does (read_failed id r Failure.NotFound) w o p q w' o'
+  pub failed_gone : Does (edit_read_found id r None) w o p q w' o' → Does (read_failed id r Failure.NotFound) w o p q w' o'
   unfolding on_edit_read edit_read_answered answer answer_failed
   failed_gone d = runs.is (read_failed id r Failure.NotFound) (λ m. refl) d
 

@@ -1,9 +1,9 @@
 -- The answers to the writes of edits, branch by branch. Assumes nothing.
-use Prim.Native.Nat.{ℕ, ◌<◌}
+use Rattle.std.specs.Prelude.{Option, Some, None}
+use Prim.Native.Nat.{ℕ}
 use native.Mathlib.Omega.{arith}
 use mathlib.Core.Path.{◌≡◌, refl, sym, ap, ◌∙◌, subst}
 use mathlib.Core.List.{List, [], ◌∷◌}
-use mathlib.Core.Option.{Option, none, some}
 use mathlib.Core.Bool.{Bool, true, false, ◌||◌, false≢true}
 use lib.Dec.{ltb}
 use lib.ListN.{length}
@@ -21,10 +21,13 @@ use Rattle.frame.specs.Meaning.{event_at, text_in, meant_failure, meant_outcome}
 use Rattle.frame.specs.declared.TextPart.{TextPart}
 use Rattle.frame.specs.declared.Outcome as outcome
 use Rattle.frame.specs.declared.Failure as failure
+use Rattle.frame.specs.declared.Failure.TheVariants as failures
 use Rattle.frame.specs.declared.Outcome.TheVariants as outcomes
 use Rattle.state.specs.Contract.{Keeps, Reads, Edits}
 use Rattle.waiting.specs.Queues.{queue, put_queue, nth}
 use Rattle.waiting.specs.Reading.{case_of, operation_case_of}
+use Rattle.waiting.specs.declared.readers.OperationCase.{OperationCase}
+use Rattle.waiting.specs.declared.readers.OperationCase.TheVariants as case
 use Rattle.waiting.proofs.Bridge as bridge
 use Rattle.waiting.proofs.Bridge.{set_queue_is}
 use Rattle.machine.specs.declared.Progress.{Progress}
@@ -55,80 +58,73 @@ module _ (id : RequestId) (r : ResourceId) (event : Option ProviderEvent) {w o w
 
 -- ---- the head's operation
 
-creating : (c : ℕ) (o : Operation) → c ≡ case_of o → c ≡ 0 → is_create o ≡ true
+abbrev pub creates : OperationCase → Bool
+creates case.Create = true
+creates case.Update = false
+creates case.Delete = false
+
+abbrev pub deletes_it : OperationCase → Bool
+deletes_it case.Create = false
+deletes_it case.Update = false
+deletes_it case.Delete = true
+
+creating : (o : Operation) → creates (case_of o) ≡ is_create o
 unfolding is_create
-creating c (Operation.Create e) k z = refl
-creating c (Operation.Update b u) k z = absurd (omega arith)
-creating c Operation.Delete k z = absurd (omega arith)
+creating (Operation.Create e) = refl
+creating (Operation.Update b u) = refl
+creating Operation.Delete = refl
 
-not_creating : (c : ℕ) (o : Operation) → c ≡ case_of o → (c ≡ 0 → ⊥) → is_create o ≡ false
-unfolding is_create
-not_creating c (Operation.Create e) k z = absurd (z k)
-not_creating c (Operation.Update b u) k z = refl
-not_creating c Operation.Delete k z = refl
-
-deleting : (c : ℕ) (o : Operation) → c ≡ case_of o → c ≡ 2 → is_delete o ≡ true
+deleting : (o : Operation) → deletes_it (case_of o) ≡ is_delete o
 unfolding is_delete
-deleting c (Operation.Create e) k z = absurd (omega arith)
-deleting c (Operation.Update b u) k z = absurd (omega arith)
-deleting c Operation.Delete k z = refl
+deleting (Operation.Create e) = refl
+deleting (Operation.Update b u) = refl
+deleting Operation.Delete = refl
 
-not_deleting : (c : ℕ) (o : Operation) → c ≡ case_of o → (c ≡ 2 → ⊥) → is_delete o ≡ false
-unfolding is_delete
-not_deleting c (Operation.Create e) k z = refl
-not_deleting c (Operation.Update b u) k z = refl
-not_deleting c Operation.Delete k z = absurd (z k)
+abbrev pub of_case : (OperationCase → Bool) → Option OperationCase → Bool
+of_case g None = false
+of_case g (Some k) = g k
 
-module _ (f : Operation → Bool) (c : ℕ) where
-  some_head : (b : Bool) → (b ≡ true → c ≡ 3 → ⊥) → ((o : Operation) → c ≡ case_of o → f o ≡ b) → (x : Option Pending) → c ≡ operation_case_of x → is_some_and (λ e. f e.edit.operation) x ≡ b
+abbrev pub HeadIs : (Operation → Bool) → ResourceId → List ℕ → Bool → Type 0
+HeadIs f r w b = Reads (λ s. is_some_and (λ e. f e.edit.operation) (nth 0 (queue r s))) w b
+
+module _ (f : Operation → Bool) (g : OperationCase → Bool) (k : (o : Operation) → g (case_of o) ≡ f o) where
+  told : (x : Option Pending) (c : Option OperationCase) → c ≡ operation_case_of x → of_case g c ≡ is_some_and (λ e. f e.edit.operation) x
   unfolding is_some_and operation_case_of
-  some_head b n k (some e) z = k e.edit.operation z
-  some_head true n k none z = absurd (n refl z)
-  some_head false n k none z = refl
+  told None c e = ap (of_case g) e
+  told (Some p) c e = ap (of_case g) e ∙ k p.edit.operation
 
-head_tells : (f : Operation → Bool) (r : ResourceId) {w : List ℕ} {c : ℕ} → Reads (λ s. operation_case_of (nth 0 (queue r s))) w c → (b : Bool) → (b ≡ true → c ≡ 3 → ⊥) → ((o : Operation) → c ≡ case_of o → f o ≡ b)
-    → (m : Machine) → Keeps m.state w → head_is f r m ≡ b
+  tells : (r : ResourceId) {w : List ℕ} {c d : Option OperationCase} → Reads (λ s. operation_case_of (nth 0 (queue r s))) w c → c ≡ d → HeadIs f r w (of_case g d)
+  tells r {w} {c} {d} C e = record { is = λ s h. ap (of_case g) (sym e) ∙ told (nth 0 (queue r s)) c (C.is s h) }
+
+pub tells_create : (r : ResourceId) {w : List ℕ} {c d : Option OperationCase} → Reads (λ s. operation_case_of (nth 0 (queue r s))) w c → c ≡ d → HeadIs is_create r w (of_case creates d)
+tells_create r C e = tells is_create creates creating r C e
+
+pub tells_delete : (r : ResourceId) {w : List ℕ} {c d : Option OperationCase} → Reads (λ s. operation_case_of (nth 0 (queue r s))) w c → c ≡ d → HeadIs is_delete r w (of_case deletes_it d)
+tells_delete r C e = tells is_delete deletes_it deleting r C e
+
+head_tells : (f : Operation → Bool) (r : ResourceId) {w : List ℕ} {b v : Bool} → HeadIs f r w b → b ≡ v → (m : Machine) → Keeps m.state w → head_is f r m ≡ v
 unfolding head_is
-head_tells f r {c = c} C b n k m h = ap (is_some_and (λ e. f e.edit.operation)) (bridge.head_is r m) ∙ some_head f c b n k (nth 0 (queue r m.state)) (C.is m.state h)
-
-module _ (r : ResourceId) {w : List ℕ} {c : ℕ} (C : Reads (λ s. operation_case_of (nth 0 (queue r s))) w c) where
-  not_three : (k : ℕ) → k < 3 → c ≡ k → c ≡ 3 → ⊥
-  not_three k l z x = omega arith
-
-  not-true : false ≡ true → c ≡ 3 → ⊥
-  not-true y x = false≢true y
-
-  head_creates : c ≡ 0 → (m : Machine) → Keeps m.state w → head_is is_create r m ≡ true
-  head_creates z m h = head_tells is_create r C true (λ y. not_three 0 (omega arith) z) (λ a b. creating c a b z) m h
-
-  head_keeps : (c ≡ 0 → ⊥) → (m : Machine) → Keeps m.state w → head_is is_create r m ≡ false
-  head_keeps z m h = head_tells is_create r C false not-true (λ a b. not_creating c a b z) m h
-
-  head_deletes : c ≡ 2 → (m : Machine) → Keeps m.state w → head_is is_delete r m ≡ true
-  head_deletes z m h = head_tells is_delete r C true (λ y. not_three 2 (omega arith) z) (λ a b. deleting c a b z) m h
-
-  head_stays : (c ≡ 2 → ⊥) → (m : Machine) → Keeps m.state w → head_is is_delete r m ≡ false
-  head_stays z m h = head_tells is_delete r C false not-true (λ a b. not_deleting c a b z) m h
+head_tells f r C z m h = ap (is_some_and (λ e. f e.edit.operation)) (bridge.head_is r m) ∙ sym (C.is m.state h) ∙ z
 
 -- ---- written, deleted
 
-module _ (id : RequestId) (r : ResourceId) (e : ProviderEvent) {w o w₁ o₁ w₂ o₂ : List ℕ} {p q t : Progress} {c : ℕ} (C : Reads (λ s. operation_case_of (nth 0 (queue r s))) w c) where
-  pub written_new : c ≡ 0 → {w₃ o₃ : List ℕ} {u : Progress} {to : ResourceId} → to ≡ resource_of e → Does (observe_write id to (some e)) w o p q w₁ o₁ → Does (remap r to) w₁ o₁ q t w₂ o₂ → Does (finish r none) w₂ o₂ t u w₃ o₃
+module _ (id : RequestId) (r : ResourceId) (e : ProviderEvent) {w o w₁ o₁ w₂ o₂ : List ℕ} {p q t : Progress} {b : Bool} (C : HeadIs is_create r w b) where
+  pub written_new : b ≡ true → {w₃ o₃ : List ℕ} {u : Progress} {to : ResourceId} → to ≡ resource_of e → Does (observe_write id to (Some e)) w o p q w₁ o₁ → Does (remap r to) w₁ o₁ q t w₂ o₂ → Does (finish r None) w₂ o₂ t u w₃ o₃
       → Does (written id r e) w o p u w₃ o₃
   unfolding written when◌then◌else◌
   written_new z {to = to} k d f g =
-      runs.is_held {f = λ m. observe_write id to (some e) m >>= remap r to >>= finish r none} (written id r e)
-      (λ m h. let y : head_is is_create r m ≡ true = head_creates r C z m h.keeps in sym (rw (y, ← k)))
+      runs.is_held {f = λ m. observe_write id to (Some e) m >>= remap r to >>= finish r None} (written id r e)
+      (λ m h. let y : head_is is_create r m ≡ true = head_tells is_create r C z m h.keeps in sym (rw (y, ← k)))
       (runs.next (runs.next d f) g)
 
-  pub written_old : (c ≡ 0 → ⊥) → Does (observe_write id r (some e)) w o p q w₁ o₁ → Does (finish r none) w₁ o₁ q t w₂ o₂ → Does (written id r e) w o p t w₂ o₂
+  pub written_old : b ≡ false → Does (observe_write id r (Some e)) w o p q w₁ o₁ → Does (finish r None) w₁ o₁ q t w₂ o₂ → Does (written id r e) w o p t w₂ o₂
   unfolding written when◌then◌else◌
   written_old z d g =
-      runs.is_held {f = λ m. observe_write id r (some e) m >>= finish r none} (written id r e)
-      (λ m h. let y : head_is is_create r m ≡ false = head_keeps r C z m h.keeps in sym (rw y))
+      runs.is_held {f = λ m. observe_write id r (Some e) m >>= finish r None} (written id r e)
+      (λ m h. let y : head_is is_create r m ≡ false = head_tells is_create r C z m h.keeps in sym (rw y))
       (runs.next d g)
 
-pub deletes : (id : RequestId) (r : ResourceId) {w o w₁ o₁ w₂ o₂ : List ℕ} {p q t : Progress} → Does (observe_write id r none) w o p q w₁ o₁ → Does (finish r none) w₁ o₁ q t w₂ o₂ → Does (deleted id r) w o p t w₂ o₂
+pub deletes : (id : RequestId) (r : ResourceId) {w o w₁ o₁ w₂ o₂ : List ℕ} {p q t : Progress} → Does (observe_write id r None) w o p q w₁ o₁ → Does (finish r None) w₁ o₁ q t w₂ o₂ → Does (deleted id r) w o p t w₂ o₂
 unfolding deleted
 deletes id r d g = runs.is (deleted id r) (λ m. refl) (runs.next d g)
 
@@ -156,16 +152,16 @@ reads_nothing r {n = n} N z = runs.is_held {f = ok} (read_again r) (λ m h. sym 
 -- ---- write_failed
 
 module _ (id : RequestId) (r : ResourceId) {w o w' o' : List ℕ} {p q : Progress} where
-  module _ {c : ℕ} (C : Reads (λ s. operation_case_of (nth 0 (queue r s))) w c) where
-    pub gone_deleted : c ≡ 2 → Does (deleted id r) w o p q w' o' → Does (write_failed id r Failure.NotFound) w o p q w' o'
+  module _ {b : Bool} (C : HeadIs is_delete r w b) where
+    pub gone_deleted : b ≡ true → Does (deleted id r) w o p q w' o' → Does (write_failed id r Failure.NotFound) w o p q w' o'
     unfolding write_failed when◌then◌else◌
     gone_deleted z d = runs.is_held {f = deleted id r} (write_failed id r Failure.NotFound)
-        (λ m h. let y : head_is is_delete r m ≡ true = head_deletes r C z m h.keeps in sym (rw y)) d
+        (λ m h. let y : head_is is_delete r m ≡ true = head_tells is_delete r C z m h.keeps in sym (rw y)) d
 
-    pub gone_again : (c ≡ 2 → ⊥) → Does (read_again r) w o p q w' o' → Does (write_failed id r Failure.NotFound) w o p q w' o'
+    pub gone_again : b ≡ false → Does (read_again r) w o p q w' o' → Does (write_failed id r Failure.NotFound) w o p q w' o'
     unfolding write_failed when◌then◌else◌
     gone_again z d = runs.is_held {f = read_again r} (write_failed id r Failure.NotFound)
-        (λ m h. let y : head_is is_delete r m ≡ false = head_stays r C z m h.keeps in sym (rw y)) d
+        (λ m h. let y : head_is is_delete r m ≡ false = head_tells is_delete r C z m h.keeps in sym (rw y)) d
 
   pub collides : {w₁ : List ℕ} → Edits (λ s. put_queue r (change_front as_collided (queue r s)) s) w w₁ → Does (read_again r) w₁ o p q w' o' → Does (write_failed id r Failure.AlreadyExists) w o p q w' o'
   unfolding write_failed change_head
@@ -175,36 +171,58 @@ module _ (id : RequestId) (r : ResourceId) {w o w' o' : List ℕ} {p q : Progres
 
 -- ---- the failures and the outcomes
 
+-- after which the resource is read again
+abbrev pub reads_on : failure.Failure → Bool
+reads_on failures.CursorExpired = true
+reads_on failures.PreconditionFailed = true
+reads_on failures.NotFound = false
+reads_on failures.AlreadyExists = false
+reads_on failures.Transient = true
+reads_on (failures.Rejected why) = false
+
+-- which say nothing of a write
+abbrev pub leaves : outcome.Outcome → Bool
+leaves (outcomes.Listed at) = true
+leaves (outcomes.Read at) = true
+leaves (outcomes.Written at) = false
+leaves outcomes.Deleted = false
+leaves (outcomes.Failed f) = false
+
 module _ (id : RequestId) (r : ResourceId) (frame : List ℕ) {w o w' o' : List ℕ} {p q : Progress} where
   pub failed_as : {x : failure.Failure} (y : failure.Failure) → x ≡ y → Does (write_failed id r (meant_failure frame y)) w o p q w' o' → Does (write_failed id r (meant_failure frame x)) w o p q w' o'
   failed_as y e d = subst (λ (z : failure.Failure). Does (write_failed id r (meant_failure frame z)) w o p q w' o') (sym e) d
 
-  pub again_expired : Does (read_again r) w o p q w' o' → Does (write_failed id r Failure.CursorExpired) w o p q w' o'
+  pub again_failed : (x : failure.Failure) → reads_on x ≡ true → Does (read_again r) w o p q w' o' → Does (write_failed id r (meant_failure frame x)) w o p q w' o'
   unfolding write_failed
-  again_expired d = runs.is (write_failed id r Failure.CursorExpired) (λ m. refl) d
+  again_failed x e d = runs.is (write_failed id r (meant_failure frame x)) (λ m. read_on x e m) d
+    where
+      read_on : (x : failure.Failure) → reads_on x ≡ true → (m : Machine) → read_again r m ≡ write_failed id r (meant_failure frame x) m
+      read_on failures.CursorExpired e m = refl
+      read_on failures.PreconditionFailed e m = refl
+      read_on failures.NotFound e m = absurd (false≢true e)
+      read_on failures.AlreadyExists e m = absurd (false≢true e)
+      read_on failures.Transient e m = refl
+      read_on (failures.Rejected why) e m = absurd (false≢true e)
 
-  pub again_precondition : Does (read_again r) w o p q w' o' → Does (write_failed id r Failure.PreconditionFailed) w o p q w' o'
-  unfolding write_failed
-  again_precondition d = runs.is (write_failed id r Failure.PreconditionFailed) (λ m. refl) d
-
-  pub again_transient : Does (read_again r) w o p q w' o' → Does (write_failed id r Failure.Transient) w o p q w' o'
-  unfolding write_failed
-  again_transient d = runs.is (write_failed id r Failure.Transient) (λ m. refl) d
-
-  pub rejects : (why : TextPart) → Does (finish r (some (Rejection.Provider (describe (Outcome.Failed (Failure.Rejected (text_in frame why))))))) w o p q w' o' → Does (write_failed id r (Failure.Rejected (text_in frame why))) w o p q w' o'
+  pub rejects : {x : failure.Failure} (why : TextPart) → x ≡ failures.Rejected why → Does (finish r (Some (Rejection.Provider (describe (Outcome.Failed (meant_failure frame x)))))) w o p q w' o' → Does (write_failed id r (meant_failure frame x)) w o p q w' o'
   unfolding write_failed describe describe_failure
-  rejects why d = runs.is (write_failed id r (Failure.Rejected (text_in frame why))) (λ m. refl) d
+  rejects {x} why e d = failed_as (failures.Rejected why) e
+      (runs.is (write_failed id r (Failure.Rejected (text_in frame why))) (λ m. refl)
+      (subst (λ (y : failure.Failure). Does (finish r (Some (Rejection.Provider (describe (Outcome.Failed (meant_failure frame y)))))) w o p q w' o') e d))
 
   pub outcome_as : {x : outcome.Outcome} (y : outcome.Outcome) → x ≡ y → Does (on_edit_write id r (meant_outcome frame y)) w o p q w' o' → Does (on_edit_write id r (meant_outcome frame x)) w o p q w' o'
   outcome_as y e d = subst (λ (z : outcome.Outcome). Does (on_edit_write id r (meant_outcome frame z)) w o p q w' o') (sym e) d
 
-  pub listed : (at : ℕ) → Does (read_again r) w o p q w' o' → Does (on_edit_write id r (meant_outcome frame (outcomes.Listed at))) w o p q w' o'
+  pub unwritten : (x : outcome.Outcome) → leaves x ≡ true → Does (read_again r) w o p q w' o' → Does (on_edit_write id r (meant_outcome frame x)) w o p q w' o'
   unfolding on_edit_write
-  listed at d = runs.is (on_edit_write id r (meant_outcome frame (outcomes.Listed at))) (λ m. refl) d
-
-  pub read : (at : ℕ) → Does (read_again r) w o p q w' o' → Does (on_edit_write id r (meant_outcome frame (outcomes.Read at))) w o p q w' o'
-  unfolding on_edit_write
-  read at d = runs.is (on_edit_write id r (meant_outcome frame (outcomes.Read at))) (λ m. refl) d
+  unwritten x e d = runs.is (on_edit_write id r (meant_outcome frame x)) (λ m. read_on x e m) d
+    where
+      read_on : (x : outcome.Outcome) → leaves x ≡ true → (m : Machine) → read_again r m ≡ on_edit_write id r (meant_outcome frame x) m
+      read_on (outcomes.Listed at) e m = refl
+      read_on (outcomes.Read at) e m = refl
+      read_on (outcomes.Written at) e m = absurd (false≢true e)
+      read_on outcomes.Deleted e m = absurd (false≢true e)
+      read_on (outcomes.Failed f) e m = absurd (false≢true e)
 
   pub wrote : (at : ℕ) → Does (written id r (event_at frame at)) w o p q w' o' → Does (on_edit_write id r (meant_outcome frame (outcomes.Written at))) w o p q w' o'
   unfolding on_edit_write

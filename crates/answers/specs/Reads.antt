@@ -1,5 +1,5 @@
 -- `on_edit_read` in parts. Assumes nothing.
-use Rattle.std.proofs.Math.Option.{none}
+use Rattle.std.specs.Prelude.{None}
 use Rattle.model.specs.Seam.{RequestId, ResourceId, Failure, Outcome}
 use Rattle.model.specs.Maps.{when◌then◌else◌, is_some}
 use Rattle.model.specs.Machine.{Machine, Run}
@@ -9,7 +9,7 @@ unfoldable pub read_or_doubt : ResourceId → Machine → Run
 read_or_doubt r m = when is_some (head r m) then read_for_edit r m else doubt r m
 
 unfoldable pub observe_missing : ResourceId → Machine → Run
-observe_missing r m = when looks_up r m then learn r m else observe r none m
+observe_missing r m = when looks_up r m then learn r m else observe r None m
 
 abbrev pub read_failed : RequestId → ResourceId → Failure → Machine → Run
 read_failed id r failure = on_edit_read id r (Outcome.Failed failure)

@@ -1,8 +1,7 @@
 // sync.rs, the answers to the reads and writes of edits.
 #![tactic(auto)]
 
-ghost use Rattle.std.specs.Prelude.{◌≡◌};
-ghost use Rattle.std.proofs.Math.Option.{none, some};
+ghost use Rattle.std.specs.Prelude.{◌≡◌, Some, None};
 ghost use Rattle.model.specs.Event.{ProviderEvent};
 ghost use Rattle.model.specs.Formats.{event_f};
 ghost use Rattle.model.specs.Sync.{observe_write, written, deleted, read_again, write_failed, on_edit_write, edit_read_found, on_edit_read};
@@ -20,8 +19,10 @@ use machine::Progress;
 use names::Name;
 use queues::Ending;
 use values::Listed;
+use waiting::OperationCase;
 
 // SyncState::observe_write, of an event
+#[tactic(auto, using(crate::proofs::Writes::write_doubted))]
 fn observe_written(
     work: &mut [u8],
     out: &mut [u8],
@@ -32,7 +33,7 @@ fn observe_written(
 ) -> Progress
     requires has_state { HasState work.old }
     requires named { (Named name.bytes) × (IsEvent event.now) }
-    ensures { (e : ProviderEvent) → event_f.Ok e → event.now ≡ event_f.enc e → Does (observe_write id (name_of name.bytes) (some e)) work.old out.old p result work.new out.new }
+    ensures { (e : ProviderEvent) → event_f.Ok e → event.now ≡ event_f.enc e → Does (observe_write id (name_of name.bytes) (Some e)) work.old out.old p result work.new out.new }
 {
     if machine::doubtful(work, id, name) {
         return observe::doubt(work, out, p, name);
@@ -41,10 +42,11 @@ fn observe_written(
 }
 
 // The same, of a resource that is gone.
+#[tactic(auto, using(crate::proofs::Writes::write_doubted, crate::proofs::Writes::write_observed))]
 fn observe_deleted(work: &mut [u8], out: &mut [u8], p: Progress, id: u64, name: Name) -> Progress
     requires has_state { HasState work.old }
     requires named { Named name.bytes }
-    ensures { Does (observe_write id (name_of name.bytes) none) work.old out.old p result work.new out.new }
+    ensures { Does (observe_write id (name_of name.bytes) None) work.old out.old p result work.new out.new }
 {
     if machine::doubtful(work, id, name) {
         return observe::doubt(work, out, p, name);
@@ -64,8 +66,7 @@ fn written(
     requires named { (Named name.bytes) × (IsEvent event.now) }
     ensures { (e : ProviderEvent) → event_f.Ok e → event.now ≡ event_f.enc e → Does (written id (name_of name.bytes) e) work.old out.old p result work.new out.new }
 {
-    let case = waiting::operation_case(work, name, 0);
-    if case == 0 {
+    if waiting::operation_case(work, name, 0) == Some(OperationCase::Create) {
         let to = observe::resource_of(event);
         let q = observe_written(work, out, p, id, to, event);
         let r = writes::remap(work, out, q, name, to);
@@ -75,6 +76,7 @@ fn written(
     queues::finish(work, out, q, name, Ending::Applied, b"")
 }
 
+#[tactic(auto, using(crate::proofs::Writes::deletes))]
 fn deleted(work: &mut [u8], out: &mut [u8], p: Progress, id: u64, name: Name) -> Progress
     requires has_state { HasState work.old }
     requires named { Named name.bytes }
@@ -89,8 +91,7 @@ fn read_again(work: &mut [u8], out: &mut [u8], p: Progress, name: Name) -> Progr
     requires named { Named name.bytes }
     ensures { Does (read_again (name_of name.bytes)) work.old out.old p result work.new out.new }
 {
-    let n = waiting::waiting_count(work, name);
-    if n == 0 {
+    if waiting::waiting_count(work, name) == 0 {
         return p;
     }
     queues::read_for_edit(work, out, p, name)
@@ -102,8 +103,7 @@ fn not_found(work: &mut [u8], out: &mut [u8], p: Progress, id: u64, name: Name) 
     requires named { Named name.bytes }
     ensures { Does (write_not_found id (name_of name.bytes)) work.old out.old p result work.new out.new }
 {
-    let case = waiting::operation_case(work, name, 0);
-    if case == 2 {
+    if waiting::operation_case(work, name, 0) == Some(OperationCase::Delete) {
         return deleted(work, out, p, id, name);
     }
     read_again(work, out, p, name)
@@ -123,30 +123,23 @@ fn write_failed(
     ensures { Does (write_failed id (name_of name.bytes) (meant_failure frame.now failure)) work.old out.old p result work.new out.new }
 {
     match failure {
-        Failure::CursorExpired => {
-            return read_again(work, out, p, name);
-        }
-        Failure::PreconditionFailed => {
-            return read_again(work, out, p, name);
-        }
-        Failure::NotFound => {
-            return not_found(work, out, p, id, name);
-        }
+        Failure::NotFound => not_found(work, out, p, id, name),
         Failure::AlreadyExists => {
             waiting::set_collided(work, name);
-            return read_again(work, out, p, name);
+            read_again(work, out, p, name)
         }
-        Failure::Transient => {
-            return read_again(work, out, p, name);
+        Failure::Rejected(_) => {
+            let ending = Ending::By(Outcome::Failed(failure));
+            queues::finish(work, out, p, name, ending, frame)
         }
-        Failure::Rejected(why) => {
-            let ending = Ending::By(Outcome::Failed(Failure::Rejected(why)));
-            return queues::finish(work, out, p, name, ending, frame);
+        Failure::CursorExpired | Failure::PreconditionFailed | Failure::Transient => {
+            read_again(work, out, p, name)
         }
     }
 }
 
 // SyncState::on_edit_write
+#[tactic(auto, using(crate::proofs::Writes::dropped, crate::proofs::Writes::failed))]
 pub fn on_edit_write(
     work: &mut [u8],
     out: &mut [u8],
@@ -161,21 +154,13 @@ pub fn on_edit_write(
     ensures { Does (on_edit_write id (name_of name.bytes) (meant_outcome frame.now outcome)) work.old out.old p result work.new out.new }
 {
     match outcome {
-        Outcome::Listed(_page) => {
-            return read_again(work, out, p, name);
-        }
-        Outcome::Read(_event) => {
-            return read_again(work, out, p, name);
-        }
         Outcome::Written(at) => {
-            return written(work, out, p, id, name, observe::event_part(frame, at));
+            let event = observe::event_part(frame, at);
+            written(work, out, p, id, name, event)
         }
-        Outcome::Deleted => {
-            return deleted(work, out, p, id, name);
-        }
-        Outcome::Failed(failure) => {
-            return write_failed(work, out, p, id, name, frame, failure);
-        }
+        Outcome::Deleted => deleted(work, out, p, id, name),
+        Outcome::Failed(failure) => write_failed(work, out, p, id, name, frame, failure),
+        Outcome::Listed(_) | Outcome::Read(_) => read_again(work, out, p, name),
     }
 }
 
@@ -187,13 +172,13 @@ fn read_or_doubt(work: &mut [u8], out: &mut [u8], p: Progress, name: Name) -> Pr
     requires named { Named name.bytes }
     ensures { Does (read_or_doubt (name_of name.bytes)) work.old out.old p result work.new out.new }
 {
-    let n = waiting::waiting_count(work, name);
-    if n == 0 {
+    if waiting::waiting_count(work, name) == 0 {
         return observe::doubt(work, out, p, name);
     }
     queues::read_for_edit(work, out, p, name)
 }
 
+#[tactic(auto, using(crate::proofs::Found::overtaken))]
 fn edit_read_event(
     work: &mut [u8],
     out: &mut [u8],
@@ -204,7 +189,7 @@ fn edit_read_event(
 ) -> Progress
     requires has_state { HasState work.old }
     requires named { (Named name.bytes) × (IsEvent theirs.now) }
-    ensures { (t : ProviderEvent) → event_f.Ok t → theirs.now ≡ event_f.enc t → Does (edit_read_found id (name_of name.bytes) (some t)) work.old out.old p result work.new out.new }
+    ensures { (t : ProviderEvent) → event_f.Ok t → theirs.now ≡ event_f.enc t → Does (edit_read_found id (name_of name.bytes) (Some t)) work.old out.old p result work.new out.new }
 {
     if machine::doubtful(work, id, name) {
         return read_or_doubt(work, out, p, name);
@@ -214,6 +199,7 @@ fn edit_read_event(
 }
 
 // Nothing was found: of a key that was looked up that says nothing of the resource.
+#[tactic(auto, using(crate::proofs::Found::missing_key, crate::proofs::Found::missing_gone))]
 fn observe_missing(work: &mut [u8], p: Progress, name: Name) -> Progress
     requires has_state { HasState work.old }
     requires named { Named name.bytes }
@@ -225,10 +211,11 @@ fn observe_missing(work: &mut [u8], p: Progress, name: Name) -> Progress
     observe::observe_gone(work, p, name)
 }
 
+#[tactic(auto, using(crate::proofs::Found::overtaken))]
 fn edit_read_gone(work: &mut [u8], out: &mut [u8], p: Progress, id: u64, name: Name) -> Progress
     requires has_state { HasState work.old }
     requires named { Named name.bytes }
-    ensures { Does (edit_read_found id (name_of name.bytes) none) work.old out.old p result work.new out.new }
+    ensures { Does (edit_read_found id (name_of name.bytes) None) work.old out.old p result work.new out.new }
 {
     if machine::doubtful(work, id, name) {
         return read_or_doubt(work, out, p, name);
@@ -251,18 +238,16 @@ fn edit_read_found(
     ensures { Does (edit_read_found id (name_of name.bytes) (option_event_at frame.now at)) work.old out.old p result work.new out.new }
 {
     let read = values::read_option_event(Cursor { at, ok: true }, frame);
-    let listed = read.listed;
-    match listed {
-        Listed::Nothing => {
-            return edit_read_gone(work, out, p, id, name);
-        }
+    match read.listed {
+        Listed::Nothing => edit_read_gone(work, out, p, id, name),
         Listed::Event(place) => {
             let theirs = observe::event_part(frame, place);
-            return edit_read_event(work, out, p, id, name, theirs);
+            edit_read_event(work, out, p, id, name, theirs)
         }
     }
 }
 
+#[tactic(auto, using(crate::proofs::Found::failed_gone, crate::proofs::Found::failed_again))]
 fn read_failed(
     work: &mut [u8],
     out: &mut [u8],
@@ -277,31 +262,16 @@ fn read_failed(
     ensures { Does (read_failed id (name_of name.bytes) (meant_failure frame.now failure)) work.old out.old p result work.new out.new }
 {
     match failure {
-        Failure::NotFound => {
-            return edit_read_gone(work, out, p, id, name);
-        }
-        Failure::Transient => {
-            return read_again(work, out, p, name);
-        }
-        Failure::CursorExpired => {
-            let ending = Ending::By(Outcome::Failed(Failure::CursorExpired));
-            return queues::finish(work, out, p, name, ending, frame);
-        }
-        Failure::PreconditionFailed => {
-            let ending = Ending::By(Outcome::Failed(Failure::PreconditionFailed));
-            return queues::finish(work, out, p, name, ending, frame);
-        }
-        Failure::AlreadyExists => {
-            let ending = Ending::By(Outcome::Failed(Failure::AlreadyExists));
-            return queues::finish(work, out, p, name, ending, frame);
-        }
-        Failure::Rejected(why) => {
-            let ending = Ending::By(Outcome::Failed(Failure::Rejected(why)));
-            return queues::finish(work, out, p, name, ending, frame);
+        Failure::NotFound => edit_read_gone(work, out, p, id, name),
+        Failure::Transient => read_again(work, out, p, name),
+        _ => {
+            let ending = Ending::By(Outcome::Failed(failure));
+            queues::finish(work, out, p, name, ending, frame)
         }
     }
 }
 
+#[tactic(auto, using(crate::proofs::Found::read_found))]
 pub fn on_edit_read(
     work: &mut [u8],
     out: &mut [u8],
@@ -316,23 +286,8 @@ pub fn on_edit_read(
     ensures { Does (on_edit_read id (name_of name.bytes) (meant_outcome frame.now outcome)) work.old out.old p result work.new out.new }
 {
     match outcome {
-        Outcome::Read(at) => {
-            return edit_read_found(work, out, p, id, name, frame, at);
-        }
-        Outcome::Failed(failure) => {
-            return read_failed(work, out, p, id, name, frame, failure);
-        }
-        Outcome::Listed(page) => {
-            let ending = Ending::By(Outcome::Listed(page));
-            return queues::finish(work, out, p, name, ending, frame);
-        }
-        Outcome::Written(at) => {
-            let ending = Ending::By(Outcome::Written(at));
-            return queues::finish(work, out, p, name, ending, frame);
-        }
-        Outcome::Deleted => {
-            let ending = Ending::By(Outcome::Deleted);
-            return queues::finish(work, out, p, name, ending, frame);
-        }
+        Outcome::Read(at) => edit_read_found(work, out, p, id, name, frame, at),
+        Outcome::Failed(failure) => read_failed(work, out, p, id, name, frame, failure),
+        _ => queues::finish(work, out, p, name, Ending::By(outcome), frame),
     }
 }

@@ -15,72 +15,30 @@ const TRANSPARENCIES: u8 = 2;
 
 const VISIBILITIES: u8 = 4;
 
-// No list of cases has more bytes, so no count goes further.
-const MOST: usize = 65536;
-
-// One more.
-pub fn more(n: usize) -> usize {
-    if n < MOST {
-        return n + 1;
-    }
-    n
-}
-
 // What was found in the bytes so far: how many of the writer's own differ, and the first place, if any, where others do.
 #[derive(Clone, Copy)]
 pub struct Found {
     pub own: usize,
-    pub other: bool,
-    pub at: usize,
+    pub other: Option<usize>,
 }
 
 fn with_other(found: Found, at: usize) -> Found {
-    if found.other {
-        return found;
-    }
     Found {
-        own: found.own,
-        other: true,
-        at,
+        other: found.other.or(Some(at)),
+        ..found
     }
 }
 
 // The byte at a place. One that the event lacks is not the writer's to take away.
 fn with_byte(found: Found, theirs: &[u8], event: &[u8], at: usize, own: bool) -> Found {
-    if theirs.len() <= at {
-        return with_other(found, at);
+    match (theirs.get(at), event.get(at)) {
+        (Some(a), Some(b)) if a == b => found,
+        (Some(_), Some(_)) if own => Found {
+            own: found.own.saturating_add(1),
+            ..found
+        },
+        _ => with_other(found, at),
     }
-    if event.len() <= at {
-        return with_other(found, at);
-    }
-    if theirs[at] == event[at] {
-        return found;
-    }
-    if !own {
-        return with_other(found, at);
-    }
-    Found {
-        own: more(found.own),
-        other: found.other,
-        at: found.at,
-    }
-}
-
-fn with_bytes(
-    found: Found,
-    theirs: &[u8],
-    event: &[u8],
-    from: usize,
-    to: usize,
-    own: bool,
-) -> Found {
-    let mut now = found;
-    let mut at = from;
-    while at < to {
-        now = with_byte(now, theirs, event, at, own);
-        at += 1;
-    }
-    now
 }
 
 // A walk through theirs: its place, and what was found up to there.
@@ -93,8 +51,9 @@ struct Walk {
 impl Walk {
     // On to a later place. The bytes up to there are the writer's own, or not.
     fn to(self, next: Cursor, theirs: &[u8], event: &[u8], own: bool) -> Walk {
-        let from = self.place.at;
-        let found = with_bytes(self.found, theirs, event, from, next.at, own);
+        let found = (self.place.at..next.at).fold(self.found, |found, at| {
+            with_byte(found, theirs, event, at, own)
+        });
         Walk { place: next, found }
     }
 }
@@ -116,14 +75,8 @@ fn entry(walk: Walk, theirs: &[u8], event: &[u8], me: &[u8]) -> Walk {
 
 fn entries(walk: Walk, theirs: &[u8], event: &[u8], me: &[u8]) -> Walk {
     let count = walk.place.count(theirs, MAX_ATTENDEES);
-    let n = count.value;
-    let mut now = walk.to(count.next, theirs, event, false);
-    let mut i: u8 = 0;
-    while i < n {
-        now = entry(now, theirs, event, me);
-        i += 1;
-    }
-    now
+    let start = walk.to(count.next, theirs, event, false);
+    (0..count.value).fold(start, |now, _| entry(now, theirs, event, me))
 }
 
 // The place of the attendees in an event.
@@ -146,8 +99,7 @@ pub fn differences(theirs: &[u8], event: &[u8], me: &[u8]) -> Found {
         place: Cursor { at: 0, ok: true },
         found: Found {
             own: 0,
-            other: false,
-            at: 0,
+            other: None,
         },
     };
     let before = start.to(attendees_place(theirs), theirs, event, false);
@@ -165,8 +117,9 @@ pub fn differences(theirs: &[u8], event: &[u8], me: &[u8]) -> Found {
         .to(reminders, theirs, event, false)
         .to(passthrough, theirs, event, true)
         .to(end, theirs, event, false);
-    if event.len() <= theirs.len() {
-        return all.found;
+    if theirs.len() < event.len() {
+        with_other(all.found, theirs.len())
+    } else {
+        all.found
     }
-    with_other(all.found, theirs.len())
 }

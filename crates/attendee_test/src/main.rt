@@ -10,28 +10,26 @@
 mod differences;
 mod tally;
 
-use comparison::{part, same};
+use comparison::part;
 use differences::differences;
-use frame::{Cursor, MAX_ATTENDEES, Role};
+use frame::{Cursor, MAX_ATTENDEES, MAX_EVENT, Role};
 use pens::Pen;
 use tally::{Beside, Claim, Totals};
-
-// The bytes of the largest event.
-const EVENT: usize = 882;
 
 // The bytes of an event's length.
 const LENGTH: usize = 2;
 
 fn claimed(theirs: &[u8], event: &[u8], me: &[u8]) -> Claim {
     let found = differences(theirs, event, me);
-    if found.other {
-        return Claim::Other(found.at);
+    if let Some(at) = found.other {
+        return Claim::Other(at);
     }
     let end = frame::event_in(event);
     if end.ok && end.at == event.len() {
-        return Claim::Own(found.own);
+        Claim::Own(found.own)
+    } else {
+        Claim::NoEvent
     }
-    Claim::NoEvent
 }
 
 fn port<'a>(
@@ -44,34 +42,21 @@ fn port<'a>(
     if MAX_ATTENDEES < merge::merged_attendees(base, ours, theirs, role) {
         return Beside::Refused;
     }
-    let mut merged = [0u8; EVENT];
+    let mut merged = [0u8; MAX_EVENT];
     let start = Pen { at: 0, ok: true };
     let pen = merge::merged_event(start, &mut merged, base, ours, theirs, role);
-    if pen.ok && same(part(&merged, 0, pen.at), event) {
-        return Beside::Same;
+    if pen.ok && part(&merged, 0, pen.at) == event {
+        Beside::Same
+    } else {
+        Beside::Differs
     }
-    Beside::Differs
-}
-
-// How far the list is read.
-#[derive(Clone, Copy)]
-struct Progress {
-    place: Cursor,
-    totals: Totals,
 }
 
 // The place so many bytes later; a stopped one where there are fewer.
 fn past(s: &[u8], place: Cursor, length: usize) -> Cursor {
-    let at = place.at;
-    if s.len() < at {
-        return Cursor { at: 0, ok: false };
-    }
-    if s.len() - at < length {
-        return Cursor { at: 0, ok: false };
-    }
-    Cursor {
-        at: at + length,
-        ok: place.ok,
+    match place.at.checked_add(length) {
+        Some(at) if at <= s.len() => Cursor { at, ok: place.ok },
+        _ => Cursor { at: 0, ok: false },
     }
 }
 
@@ -83,10 +68,9 @@ fn claim_of(s: &[u8], theirs: &[u8], event: &[u8], role: Role) -> Claim {
     }
 }
 
-// One case.
-fn one(s: &[u8], before: Progress) -> Progress {
-    let told = before.totals;
-    let base = before.place.fields(s);
+// One case, and the place after it.
+fn one(s: &[u8], place: Cursor, totals: &mut Totals) -> Cursor {
+    let base = place.fields(s);
     let ours = base.next.fields(s);
     let theirs = ours.next.event(s);
     let from = theirs.next;
@@ -97,10 +81,7 @@ fn one(s: &[u8], before: Progress) -> Progress {
     let start = length.next;
     let next = past(s, start, length.value as usize);
     if !next.ok {
-        return Progress {
-            place: next,
-            totals: told,
-        };
+        return next;
     }
     let event = part(s, start.at, next.at);
     let said = claim_of(s, theirs.value.bytes(s), event, by);
@@ -111,35 +92,25 @@ fn one(s: &[u8], before: Progress) -> Progress {
         part(s, from.at, to.at),
         event,
     );
-    let totals = tally::tell(told, said, beside);
-    Progress {
-        place: next,
-        totals,
-    }
+    totals.tell(said, beside);
+    next
 }
 
 // Every case takes a byte at least, so there are no more of them than bytes.
 fn all(s: &[u8]) -> Totals {
-    let mut now = Progress {
-        place: Cursor { at: 0, ok: true },
-        totals: tally::none(),
-    };
-    let mut left = s.len();
-    while 0 < left {
-        if !now.place.ok {
-            return now.totals;
+    let mut totals = Totals::default();
+    let mut place = Cursor { at: 0, ok: true };
+    for _ in 0..s.len() {
+        if !place.ok || s.len() <= place.at {
+            return totals;
         }
-        if s.len() <= now.place.at {
-            return now.totals;
-        }
-        now = one(s, now);
-        left -= 1;
+        place = one(s, place, &mut totals);
     }
-    now.totals
+    totals
 }
 
 fn main() {
     let mut space = io::large_buffer();
     let n = io::read_full(0, &mut space);
-    tally::last_line(all(&space[..n]));
+    all(&space[..n]).last_line();
 }

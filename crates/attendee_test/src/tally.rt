@@ -1,5 +1,4 @@
 // What is said of each case, and of how many.
-use crate::differences::more;
 use printing::{end, number, show};
 
 // Whether the bytes that differ are the writer's own.
@@ -19,84 +18,74 @@ pub enum Beside {
 }
 
 // How many cases there were, and of how many each was said.
-#[derive(Clone, Copy)]
+#[derive(Clone, Copy, Default)]
 pub struct Totals {
-    pub cases: usize,
-    pub own: usize,
-    pub changed: usize,
-    pub other: usize,
-    pub broken: usize,
-    pub differ: usize,
-    pub refused: usize,
+    cases: usize,
+    own: usize,
+    changed: usize,
+    other: usize,
+    broken: usize,
+    differ: usize,
+    refused: usize,
 }
 
-pub fn none() -> Totals {
-    Totals {
-        cases: 0,
-        own: 0,
-        changed: 0,
-        other: 0,
-        broken: 0,
-        differ: 0,
-        refused: 0,
+fn count(n: &mut usize) {
+    *n = n.saturating_add(1);
+}
+
+impl Totals {
+    // A case's line.
+    pub fn tell(&mut self, claim: Claim, beside: Beside) {
+        count(&mut self.cases);
+        self.tell_claim(claim);
+        self.tell_beside(beside);
+        end();
     }
-}
 
-// Prints what is claimed, and counts it.
-fn tell_claim(totals: Totals, claim: Claim) -> Totals {
-    let mut t = totals;
-    t.cases = more(t.cases);
-    match claim {
-        Claim::Own(n) => {
-            number(b"own", n);
-            t.own = more(t.own);
-            if 0 < n {
-                t.changed = more(t.changed);
+    // Prints what is claimed, and counts it.
+    fn tell_claim(&mut self, claim: Claim) {
+        match claim {
+            Claim::Own(n) => {
+                number(b"own", n);
+                count(&mut self.own);
+                if 0 < n {
+                    count(&mut self.changed);
+                }
+            }
+            Claim::Other(at) => {
+                number(b"other", at);
+                count(&mut self.other);
+            }
+            Claim::NoEvent => {
+                show(b"no event");
+                count(&mut self.broken);
             }
         }
-        Claim::Other(at) => {
-            number(b"other", at);
-            t.other = more(t.other);
-        }
-        Claim::NoEvent => {
-            show(b"no event");
-            t.broken = more(t.broken);
+    }
+
+    // Prints what the port's merge is beside it, and counts that.
+    fn tell_beside(&mut self, beside: Beside) {
+        match beside {
+            Beside::Same => {}
+            Beside::Differs => {
+                show(b" port differs");
+                count(&mut self.differ);
+            }
+            Beside::Refused => {
+                show(b" port refused");
+                count(&mut self.refused);
+            }
         }
     }
-    t
-}
 
-// Prints what the port's merge is beside it, and counts that.
-fn tell_beside(totals: Totals, beside: Beside) -> Totals {
-    let mut t = totals;
-    match beside {
-        Beside::Same => {}
-        Beside::Differs => {
-            show(b" port differs");
-            t.differ = more(t.differ);
-        }
-        Beside::Refused => {
-            show(b" port refused");
-            t.refused = more(t.refused);
-        }
+    pub fn last_line(&self) {
+        number(b"cases", self.cases);
+        number(b": own", self.own);
+        number(b", with a change", self.changed);
+        number(b"; other", self.other);
+        number(b"; no event", self.broken);
+        number(b"; port differs", self.differ);
+        number(b", refused", self.refused);
+        end();
     }
-    t
-}
-
-// A case's line.
-pub fn tell(totals: Totals, claim: Claim, beside: Beside) -> Totals {
-    let t = tell_beside(tell_claim(totals, claim), beside);
-    end();
-    t
-}
-
-pub fn last_line(t: Totals) {
-    number(b"cases", t.cases);
-    number(b": own", t.own);
-    number(b", with a change", t.changed);
-    number(b"; other", t.other);
-    number(b"; no event", t.broken);
-    number(b"; port differs", t.differ);
-    number(b", refused", t.refused);
-    end();
 }

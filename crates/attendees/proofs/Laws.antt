@@ -1,10 +1,10 @@
 -- Laws of the attendees' part: one for each answer of each function, its premises the facts of the branches. Assumes nothing.
+use Rattle.std.specs.Prelude.{Some, None}
 use Prim.Native.Nat.{ℕ, suc, ◌+◌, ◌-◌, ◌≤◌, ◌<◌}
 use native.Mathlib.Omega.{arith}
 use native.Mathlib.Numerals.{add-one}
 use mathlib.Core.Path.{◌≡◌, refl, sym, ap, ◌∙◌}
 use mathlib.Core.List.{List, [], ◌∷◌, ◌++◌}
-use mathlib.Core.Option.{none, some}
 use mathlib.Core.Bool.{Bool, true, false, cond, not, ◌&&◌, and-true}
 use lib.Dec.{leb, ltb, eqb}
 use lib.ListN.{length, get_or}
@@ -18,8 +18,8 @@ use Rattle.model.proofs.FormatsLaws.{short_text_law}
 use Rattle.comparison.proofs.Laws.{same_nil, same_cons}
 use Rattle.frame.specs.Read.{skips, start, value_at, value_of}
 use Rattle.frame.specs.declared.Cursor.{Cursor}
-use Rattle.comparison.specs.Bytes.{same_folded, raw, is_ours, is_conflict, is_refused, span}
-use Rattle.attendees.specs.Entries.{entry_count, entry_at, entry_bytes, address_of, one_if, tally_of, occurrence_of, find_from, find_bytes, shown_address, head_of, reply_of, kind_of, same_rest, judge_whole, judge_removed, rest_refused, judge_standing, judge_own, judge_of, entry_value_items, side_bytes, entry_refused, entry_conflict, entry_items, own_of, key_items, our_key_items, their_items, our_items, entries_items}
+use Rattle.comparison.specs.Bytes.{same_folded, raw, span}
+use Rattle.attendees.specs.Entries.{entry_count, entry_at, entry_bytes, address_of, one_if, tally_of, occurrence_of, find_from, find_bytes, shown_address, head_of, reply_of, kind_of, same_rest, judge_whole, judge_removed, rest_refused, judge_standing, judge_own, judge_of, entry_value_items, side_bytes, entry_items, own_of, key_items, our_key_items, their_items, our_items, entries_items}
 use Rattle.attendees.specs.declared.judging.Judged.{Judged}
 
 module _ (e : List ℕ) where
@@ -115,8 +115,8 @@ unfolding address_of value_at
 address_short s = go (short_text.dec s) refl
   where
     go : (x : Got (List ℕ)) → short_text.dec s ≡ x → length (value_of [] x) ≤ 255
-    go none e = omega arith
-    go (some r) e = text_ok r.0 (short_text_law.reads s r e).1
+    go None e = omega arith
+    go (Some r) e = text_ok r.0 (short_text_law.reads s r e).1
 
 pub shown_short : (b o t r : List ℕ) → r ≡ shown_address b o t → length r ≤ 255
 unfolding shown_address
@@ -151,15 +151,6 @@ module _ (b o t : List ℕ) (x : Bool) (e : x ≡ same_rest o b) where
 
   pub rest_other : x ≡ false → (y : Bool) → y ≡ same_rest o t → not y ≡ rest_refused b o t
   rest_other h y f = rw (← e, h, f)
-
-pub standing_is : (b o t : List ℕ) (x y z : Bool) (p q r s : ℕ) (v : Verdict) → x ≡ rest_refused b o t → p ≡ reply_of b → q ≡ reply_of o → r ≡ reply_of t
-    → v ≡ verdict raw (p ∷ []) (q ∷ []) (r ∷ []) true → y ≡ is_ours v → s ≡ cond y (reply_of o) (reply_of t) → z ≡ is_conflict v
-    → ◌≡◌ {A = Judged} (record { ours = false; reply = s; conflict = z; refused = x }) (judge_standing b o t)
-standing_is b o t x y z p q r s v e f g h i j k l = rw (e, k, l, j, i, f, g, h)
-
-pub whole_is : (b o t : List ℕ) (owned : Bool) (x y z : Bool) (s : ℕ) (v : Verdict) → v ≡ verdict raw b o t owned → x ≡ is_ours v → s ≡ cond x (reply_of o) (reply_of t)
-    → y ≡ is_conflict v → z ≡ is_refused v → ◌≡◌ {A = Judged} (record { ours = x; reply = s; conflict = y; refused = z }) (judge_whole b o t owned)
-whole_is b o t owned x y z s v e f g h i = rw (g, h, i, f, e)
 
 module _ (b o t : List ℕ) (j : Judged) where
   pub own_new : length b ≡ 0 → j ≡ judge_whole b o t false → j ≡ judge_own b o t
@@ -211,31 +202,6 @@ value_none e reply h = rw (eq-eqb (length e) 0 h)
 pub value_some : (e x : List ℕ) (reply k : ℕ) → (length e ≡ 0 → ⊥) → x ≡ head_of e → k ≡ kind_of e → ((x ++ (reply ∷ k ∷ [])) ∷ []) ≡ entry_value_items e reply
 unfolding entry_value_items
 value_some e x reply k h f g = rw (ne_eqb (length e) 0 h, f, g)
-
-module _ (which : ℕ) (j : Judged) (b o t : List ℕ) where
-  pub items_ours : which ≡ 0 → j.ours ≡ true → entry_value_items o j.reply ≡ entry_items which j b o t
-  unfolding entry_items
-  items_ours h e = rw (eq-eqb which 0 h, e)
-
-  pub items_theirs : which ≡ 0 → j.ours ≡ false → entry_value_items t j.reply ≡ entry_items which j b o t
-  unfolding entry_items
-  items_theirs h e = rw (eq-eqb which 0 h, e)
-
-  pub items_conflict : (which ≡ 0 → ⊥) → which ≡ 1 → j.conflict ≡ true → (entry_conflict b o t ∷ []) ≡ entry_items which j b o t
-  unfolding entry_items
-  items_conflict g h e = rw (ne_eqb which 0 g, eq-eqb which 1 h, e)
-
-  pub items_calm : (which ≡ 0 → ⊥) → which ≡ 1 → j.conflict ≡ false → [] ≡ entry_items which j b o t
-  unfolding entry_items
-  items_calm g h e = rw (ne_eqb which 0 g, eq-eqb which 1 h, e)
-
-  pub items_refused : (which ≡ 0 → ⊥) → (which ≡ 1 → ⊥) → j.refused ≡ true → (entry_refused b o t ∷ []) ≡ entry_items which j b o t
-  unfolding entry_items
-  items_refused g h e = rw (ne_eqb which 0 g, ne_eqb which 1 h, e)
-
-  pub items_owned : (which ≡ 0 → ⊥) → (which ≡ 1 → ⊥) → j.refused ≡ false → [] ≡ entry_items which j b o t
-  unfolding entry_items
-  items_owned g h e = rw (ne_eqb which 0 g, ne_eqb which 1 h, e)
 
 -- the loops
 

@@ -1,9 +1,9 @@
 -- The address shown for encoded entries is the one that the merge shows for the entries. Assumes nothing.
+use Rattle.std.specs.Prelude.{Option, Some, None}
 use Prim.Native.Nat.{ℕ, ◌<◌}
 use native.Mathlib.Omega.{arith}
 use mathlib.Core.Path.{◌≡◌, refl, ap, ◌∙◌}
 use mathlib.Core.List.{List, [], ◌∷◌, ◌++◌}
-use mathlib.Core.Option.{Option, none, some}
 use lib.ListN.{length}
 use borrow.Author.Tests.{lt-ltb}
 use Rattle.format.specs.Format.{below, option, text, ◌⊗◌, via}
@@ -37,10 +37,10 @@ present a = rw (enc_cons a) (omega arith)
 pub shown_enc : (x y z : Option Attendee) → (option attendee_f).Ok x → (option attendee_f).Ok y → (option attendee_f).Ok z
     → shown_address (entry_enc x) (entry_enc y) (entry_enc z) ≡ display_address x y z
 unfolding shown_address display_address
-shown_enc x y (some t) p q r = rw (lt-ltb 0 (length (attendee_f.enc t)) (present t)) (address_enc t (ok_some attendee_f t r))
-shown_enc x (some o) none p q r = rw (lt-ltb 0 (length (attendee_f.enc o)) (present o)) (address_enc o (ok_some attendee_f o q))
-shown_enc (some b) none none p q r = address_enc b (ok_some attendee_f b p)
-shown_enc none none none p q r = address_none
+shown_enc x y (Some t) p q r = rw (lt-ltb 0 (length (attendee_f.enc t)) (present t)) (address_enc t (ok_some attendee_f t r))
+shown_enc x (Some o) None p q r = rw (lt-ltb 0 (length (attendee_f.enc o)) (present o)) (address_enc o (ok_some attendee_f o q))
+shown_enc (Some b) None None p q r = address_enc b (ok_some attendee_f b p)
+shown_enc None None None p q r = address_none
 
 pub shown : (b o t r : List ℕ) → r ≡ shown_address b o t → Shown b o t r
 shown b o t r e = record { bytes = e; means = λ x y z p q w f g h. e ∙ (rw (f, g, h) (shown_enc x y z p q w)) }

@@ -1,7 +1,6 @@
 -- The attendees' part of the merge over encoded lists: what the code does, byte by byte. A list is its count and its entries; an entry
 -- that is absent is no bytes. Assumes nothing.
-use Rattle.std.specs.Prelude.{ℕ, zero, suc, ◌+◌, ◌-◌, List, [], ◌∷◌, ◌++◌, ◌≡◌, Bool, true, false, cond, not, ◌&&◌, ◌||◌, leb, ltb, eqb, length, take, get_or}
-use Rattle.std.proofs.Math.Option.{Option, none, some}
+use Rattle.std.specs.Prelude.{ℕ, zero, suc, ◌+◌, ◌-◌, List, [], ◌∷◌, ◌++◌, ◌≡◌, Bool, true, false, cond, not, ◌&&◌, ◌||◌, leb, ltb, eqb, length, take, get_or, Option, Some, None}
 use Rattle.format.specs.Format.{below, option}
 use Rattle.model.specs.Event.{Attendee}
 use Rattle.model.specs.Limits.{max_attendees}
@@ -60,8 +59,8 @@ shown_address b o t = cond (ltb 0 (length t)) (address_of t) (cond (ltb 0 (lengt
 
 -- an entry's bytes: none where it is absent
 abbrev pub entry_enc : Option Attendee → List ℕ
-entry_enc none = []
-entry_enc (some a) = attendee_f.enc a
+entry_enc None = []
+entry_enc (Some a) = attendee_f.enc a
 
 -- r is the address that is shown for the entries whose bytes these are
 pub record Shown (base ours theirs r : List ℕ) : Type 0 where

@@ -29,10 +29,10 @@ fn judge_whole(b: &[u8], o: &[u8], t: &[u8], owned: bool) -> Judged
     ensures { result ≡ judge_whole b.now o.now t.now owned }
 {
     let v = comparison::verdict_of(b, o, t, owned);
-    let ours = comparison::is_ours(v);
+    let ours = v == Verdict::Ours;
     let reply = reply_if(ours, o, t);
-    let conflict = comparison::is_conflict(v);
-    let refused = comparison::is_refused(v);
+    let conflict = v == Verdict::Conflict;
+    let refused = v == Verdict::Refused;
     Judged {
         ours,
         reply,
@@ -104,8 +104,8 @@ fn judge_standing(b: &[u8], o: &[u8], t: &[u8]) -> Judged
 {
     let refused = rest_refused(b, o, t);
     let v = verdict_byte(reply(b), reply(o), reply(t));
-    let reply = reply_if(comparison::is_ours(v), o, t);
-    let conflict = comparison::is_conflict(v);
+    let reply = reply_if(v == Verdict::Ours, o, t);
+    let conflict = v == Verdict::Conflict;
     Judged {
         ours: false,
         reply,

@@ -1,5 +1,6 @@
 // The lists of all sides, merged.
 ghost use Rattle.std.specs.Prelude.{◌≡◌};
+ghost use Rattle.comparison.specs.Which.{number_of};
 ghost use Rattle.pens.specs.Writing.{Listed};
 ghost use Rattle.attendees.specs.Entries.{entry_count, own_of, key_items, our_key_items, their_items, our_items, entries_items};
 
@@ -7,6 +8,7 @@ use crate::entry_parts::{address, entry_count, entry_part};
 use crate::finding::{find_entry, occurrence};
 use crate::judging::judge;
 use crate::reporting::entry;
+use comparison::Which;
 use pens::Sheet;
 
 // Whether an entry is the writer's own, who is no owner.
@@ -22,7 +24,7 @@ fn is_own(owner: bool, me: &[u8], wanted: &[u8]) -> bool
 fn entry_of<'a>(
     sheet: Sheet,
     out: &mut [u8],
-    which: u8,
+    which: Which,
     owner: bool,
     me: &[u8],
     base: &'a [u8],
@@ -31,7 +33,7 @@ fn entry_of<'a>(
     wanted: &[u8],
     n: u8,
 ) -> Sheet
-    ensures { Listed out.old out.new sheet.pen sheet.count result.pen result.count (key_items which owner me.now base.now ours.now theirs.now wanted.now n) }
+    ensures { Listed out.old out.new sheet.pen sheet.count result.pen result.count (key_items (number_of which) owner me.now base.now ours.now theirs.now wanted.now n) }
 {
     let b = find_entry(base, wanted, n);
     let o = find_entry(ours, wanted, n);
@@ -44,14 +46,14 @@ fn entry_of<'a>(
 fn their_entries<'a>(
     sheet: Sheet,
     out: &mut [u8],
-    which: u8,
+    which: Which,
     owner: bool,
     me: &[u8],
     base: &'a [u8],
     ours: &'a [u8],
     theirs: &'a [u8],
 ) -> Sheet
-    ensures { Listed out.old out.new sheet.pen sheet.count result.pen result.count (their_items which owner me.now base.now ours.now theirs.now (entry_count theirs.now)) }
+    ensures { Listed out.old out.new sheet.pen sheet.count result.pen result.count (their_items (number_of which) owner me.now base.now ours.now theirs.now (entry_count theirs.now)) }
 {
     let mut h = sheet;
     let count = entry_count(theirs);
@@ -68,7 +70,7 @@ fn their_entries<'a>(
 fn our_entry<'a>(
     sheet: Sheet,
     out: &mut [u8],
-    which: u8,
+    which: Which,
     owner: bool,
     me: &[u8],
     base: &'a [u8],
@@ -77,7 +79,7 @@ fn our_entry<'a>(
     wanted: &[u8],
     n: u8,
 ) -> Sheet
-    ensures { Listed out.old out.new sheet.pen sheet.count result.pen result.count (our_key_items which owner me.now base.now ours.now theirs.now wanted.now n) }
+    ensures { Listed out.old out.new sheet.pen sheet.count result.pen result.count (our_key_items (number_of which) owner me.now base.now ours.now theirs.now wanted.now n) }
 {
     let t = find_entry(theirs, wanted, n);
     if 0 < t.len() {
@@ -89,14 +91,14 @@ fn our_entry<'a>(
 fn our_entries<'a>(
     sheet: Sheet,
     out: &mut [u8],
-    which: u8,
+    which: Which,
     owner: bool,
     me: &[u8],
     base: &'a [u8],
     ours: &'a [u8],
     theirs: &'a [u8],
 ) -> Sheet
-    ensures { Listed out.old out.new sheet.pen sheet.count result.pen result.count (our_items which owner me.now base.now ours.now theirs.now (entry_count ours.now)) }
+    ensures { Listed out.old out.new sheet.pen sheet.count result.pen result.count (our_items (number_of which) owner me.now base.now ours.now theirs.now (entry_count ours.now)) }
 {
     let mut h = sheet;
     let count = entry_count(ours);
@@ -114,14 +116,14 @@ fn our_entries<'a>(
 pub fn entries<'a>(
     sheet: Sheet,
     out: &mut [u8],
-    which: u8,
+    which: Which,
     owner: bool,
     me: &[u8],
     base: &'a [u8],
     ours: &'a [u8],
     theirs: &'a [u8],
 ) -> Sheet
-    ensures { Listed out.old out.new sheet.pen sheet.count result.pen result.count (entries_items which owner me.now base.now ours.now theirs.now) }
+    ensures { Listed out.old out.new sheet.pen sheet.count result.pen result.count (entries_items (number_of which) owner me.now base.now ours.now theirs.now) }
 {
     let h = their_entries(sheet, out, which, owner, me, base, ours, theirs);
     our_entries(h, out, which, owner, me, base, ours, theirs)

@@ -1,12 +1,13 @@
 // An entry on the sheet: its value, its conflict, what is refused of it.
 ghost use Rattle.std.specs.Prelude.{[], ◌∷◌};
+ghost use Rattle.comparison.specs.Which.{number_of};
 ghost use Rattle.pens.specs.Writing.{Wrote, Listed};
 ghost use Rattle.attendees.specs.Entries.{entry_value_items, side_bytes, entry_conflict, entry_refused, entry_items};
 
 use crate::entry_parts::{head, kind};
 use crate::finding::display_address;
 use crate::judging::Judged;
-use comparison::{CONFLICTS, MERGED};
+use comparison::Which;
 use pens::{Pen, Sheet};
 
 // Writes an entry with a reply.
@@ -66,31 +67,23 @@ fn entry_refused<'a>(sheet: Sheet, out: &mut [u8], b: &'a [u8], o: &'a [u8], t: 
     Sheet { pen: p, count: n }
 }
 
+#[tactic(auto, unfolding(crate::specs::Entries::entry_items))]
 pub fn entry<'a>(
     sheet: Sheet,
     out: &mut [u8],
-    which: u8,
+    which: Which,
     j: Judged,
     b: &'a [u8],
     o: &'a [u8],
     t: &'a [u8],
 ) -> Sheet
-    ensures { Listed out.old out.new sheet.pen sheet.count result.pen result.count (entry_items which j b.now o.now t.now) }
+    ensures { Listed out.old out.new sheet.pen sheet.count result.pen result.count (entry_items (number_of which) j b.now o.now t.now) }
 {
-    if which == MERGED {
-        if j.ours {
-            return entry_value(sheet, out, o, j.reply);
-        }
-        return entry_value(sheet, out, t, j.reply);
+    match which {
+        Which::Merged if j.ours => entry_value(sheet, out, o, j.reply),
+        Which::Merged => entry_value(sheet, out, t, j.reply),
+        Which::Conflicts if j.conflict => entry_conflict(sheet, out, b, o, t),
+        Which::Refused if j.refused => entry_refused(sheet, out, b, o, t),
+        _ => sheet,
     }
-    if which == CONFLICTS {
-        if j.conflict {
-            return entry_conflict(sheet, out, b, o, t);
-        }
-        return sheet;
-    }
-    if j.refused {
-        return entry_refused(sheet, out, b, o, t);
-    }
-    sheet
 }

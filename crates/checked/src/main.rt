@@ -127,11 +127,8 @@ fn run(list: &[u8])
     requires { length list.now ≤ 65536 }
 {
     let mut state = [0u8; engine::STATE];
-    let mut from = 0;
-    while from < list.len() {
-        let to = lines::line_end(list, from);
-        one(&mut state, &list[from..to]);
-        from = to + 1;
+    for line in list.split_inclusive(|b| *b == lines::LINE_FEED) {
+        one(&mut state, line.strip_suffix(b"\n").unwrap_or(line));
     }
 }
 

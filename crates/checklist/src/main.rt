@@ -11,61 +11,53 @@ mod reading;
 mod split;
 mod walk;
 
-ghost use Rattle.std.specs.Prelude.{◌≤◌, length};
-
 use comparison::part;
+use kinds::Kind;
 use pens::Pen;
 use walk::{Log, State, Walk};
 
 // Handles a line that is a condition, or of no known kind.
-fn condition(state: &State, log: &Log, walk: Walk, line: &[u8]) -> Walk {
+fn condition(state: &State, log: &Log, walk: Walk, kind: Option<Kind>, line: &[u8]) -> Walk {
+    let (_, rest) = split::cut(line);
     let effects = part(log, 0, walk.log.at);
-    let met = conditions::met(state, effects, kinds::of(line), split::rest(line));
+    let met = conditions::met(state, effects, kind, rest);
     walk.answered(line, met)
 }
 
 // Handles a line of the list.
 fn one(state: &mut State, log: &mut Log, before: Walk, line: &[u8]) -> Walk {
-    let rest = split::rest(line);
-    let kind = kinds::of(line);
-    if kind == kinds::NOTE {
-        return before;
+    let (_, rest) = split::cut(line);
+    match kinds::of(line) {
+        Some(Kind::Note) => before,
+        Some(Kind::Refused) => before.opened().expects(line, rest),
+        kind => act(state, log, before.settled(), kind, line),
     }
-    if kind == kinds::REFUSED {
-        return before.opened().expects(line, rest);
-    }
-    act(state, log, before.settled(), line)
 }
 
 // Does what a line says that is neither passed over nor expects a refusal.
-fn act(state: &mut State, log: &mut Log, before: Walk, line: &[u8]) -> Walk {
-    let rest = split::rest(line);
+fn act(state: &mut State, log: &mut Log, before: Walk, kind: Option<Kind>, line: &[u8]) -> Walk {
+    let (_, rest) = split::cut(line);
     let walk = before.opened();
-    match kinds::of(line) {
-        kinds::WALK => walk::begin(state, before, rest),
-        kinds::EXPECTED => {
+    match kind {
+        Some(Kind::Walk) => walk::begin(state, before, rest),
+        Some(Kind::Expected) => {
             print::line(b"Expected: ", rest);
             walk
         }
-        kinds::FRAME => walk::step(state, log, walk, line),
-        kinds::MARK => walk.logged(Pen { at: 0, ok: true }),
-        kinds::CHECK => walk.check(rest),
-        kinds::ALL => walk::end(before, rest),
-        _ => condition(state, log, walk, line),
+        Some(Kind::Frame) => walk::step(state, log, walk, line),
+        Some(Kind::Mark) => walk.logged(Pen { at: 0, ok: true }),
+        Some(Kind::Check) => walk.check(rest),
+        Some(Kind::All) => walk::end(before, rest),
+        kind => condition(state, log, walk, kind, line),
     }
 }
 
-fn run(list: &[u8])
-    requires { length list.now ≤ 65536 }
-{
+fn run(list: &[u8]) {
     let mut state = [0u8; engine::STATE];
     let mut log = [0u8; frame::MAX_EFFECTS];
-    let mut walk = walk::none();
-    let mut from = 0;
-    while from < list.len() {
-        let to = lines::line_end(list, from);
-        walk = one(&mut state, &mut log, walk, &list[from..to]);
-        from = to + 1;
+    let mut walk = walk::first();
+    for line in list.split(|b| *b == lines::LINE_FEED) {
+        walk = one(&mut state, &mut log, walk, line);
     }
     if walk.open {
         print::show(b"NOT all walks hold: the list has no line 'all' at its end.\n");

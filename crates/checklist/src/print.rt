@@ -8,6 +8,7 @@ use pens::Pen;
 // Room for a line's words with every byte by its number, and for what stands around them.
 const LINE: usize = 262208;
 
+#[tactic(auto, using(phrases::proofs::Printed::plain_shown))]
 pub fn show(words: &[u8])
     requires { T (plain words.now) }
 {
@@ -17,11 +18,11 @@ pub fn show(words: &[u8])
 fn all(text: &[u8], pen: Pen)
     requires { Ready text.now pen }
 {
-    if !pen.ok {
+    if pen.ok {
+        phrases::print(part(text, 0, pen.at));
+    } else {
         show(b"    (too long to print)\n");
-        return;
     }
-    phrases::print(part(text, 0, pen.at));
 }
 
 // Words of the list behind words of the program. No escape sequence in a list reaches a terminal.
@@ -46,18 +47,12 @@ fn put_line(text: &mut [u8], head: &[u8], words: &[u8]) -> Pen
 fn put_effects(pen: Pen, text: &mut [u8], effects: &[u8]) -> Pen
     ensures { Shows text.old text.new pen result }
 {
-    let mut p = pen;
-    let mut at = 0;
-    while at < effects.len() {
-        let end = effects::effect_end(effects, at);
-        if end <= at {
-            return p;
-        }
-        let head = p.part(text, b"\n    effect: ");
-        p = words::effect(head, text, part(effects, at, end));
-        at = end;
+    let mut said = pen;
+    for effect in words::effects_in(effects) {
+        let head = said.part(text, b"\n    effect: ");
+        said = words::effect(head, text, effect);
     }
-    p
+    said
 }
 
 // A step: the frame in digits and in words, the answer and the effects.

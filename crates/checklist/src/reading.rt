@@ -1,16 +1,13 @@
 // What can be read of the state. Of bytes that are no well-formed state nothing is said to be so.
 use crate::walk::State;
 use access::Part;
-use comparison::{part, same};
+use comparison::part;
 
-// A count that no line asks for.
-const NONE: u64 = u64::MAX;
-
-const MAX_IN_FLIGHT: u64 = 24;
+const MAX_IN_FLIGHT: usize = 24;
 
 fn is_part(state: &State, p: Part, bytes: &[u8]) -> bool {
     let from = part(state, p.at, state.len());
-    same(part(from, 0, p.length), bytes)
+    part(from, 0, p.length) == bytes
 }
 
 // Whether there is one record, and its event has these bytes. A record's event has some, so digits that hold none are not its.
@@ -33,26 +30,25 @@ pub fn no_cursor(state: &State) -> bool {
 }
 
 // How many edits wait for the resource.
-pub fn waiting(state: &State, resource: &[u8]) -> u64 {
+pub fn waiting(state: &State, resource: &[u8]) -> Option<u64> {
     let r = access::waiting_count(state, resource);
     if r.code == 0 {
-        return r.count as u64;
+        Some(r.count as u64)
+    } else {
+        None
     }
-    NONE
 }
 
 // How many requests are in flight.
-pub fn in_flight(state: &State) -> u64 {
-    let mut n: u64 = 0;
-    while n < MAX_IN_FLIGHT {
-        let r = access::in_flight_at(state, n as usize);
+pub fn in_flight(state: &State) -> Option<u64> {
+    for n in 0..MAX_IN_FLIGHT {
+        let r = access::in_flight_at(state, n);
         if r.code != 0 {
-            return NONE;
+            return None;
         }
         if !r.found {
-            return n;
+            return Some(n as u64);
         }
-        n += 1;
     }
-    n
+    Some(MAX_IN_FLIGHT as u64)
 }

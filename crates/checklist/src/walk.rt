@@ -13,34 +13,40 @@ pub type Log = [u8; frame::MAX_EFFECTS];
 pub struct Walk {
     // where the effects end in the log
     pub log: Pen,
-    // the number with which the last frame was refused, until a line expects it; 0 for none
-    pub refused: u8,
-    // whether a condition stands since the last check, and whether all of them are met
-    pub asked: bool,
-    pub met: bool,
+    // the number with which the last frame was refused, until a line expects it
+    refused: Option<u8>,
+    // whether all conditions since the last check are met, where there are any
+    met: Option<bool>,
     // whether the walk has a check, and whether it holds so far
-    pub checked: bool,
-    pub holds: bool,
-    // whether there are walks before it, and whether all of them hold
-    pub some: bool,
-    pub all: bool,
+    checked: bool,
+    holds: bool,
+    // whether all walks before it hold, where there are any
+    all: Option<bool>,
     // whether its verdict is still to be printed
     pub open: bool,
 }
 
 // Before the first walk.
-pub fn none() -> Walk {
+pub fn first() -> Walk {
+    behind(None)
+}
+
+// Behind walks of which this is known, before the next one.
+fn behind(all: Option<bool>) -> Walk {
     Walk {
         log: Pen { at: 0, ok: true },
-        refused: 0,
-        asked: false,
-        met: true,
+        refused: None,
+        met: None,
         checked: false,
         holds: true,
-        some: false,
-        all: true,
+        all,
         open: false,
     }
+}
+
+// What is known of all, with one more.
+fn with(all: Option<bool>, one: bool) -> Option<bool> {
+    Some(all.unwrap_or(true) && one)
 }
 
 impl Walk {
@@ -57,20 +63,21 @@ impl Walk {
 
     // A refusal that no line expects.
     pub fn settled(mut self) -> Walk {
-        if self.refused == 0 {
-            return self;
+        if self.refused.take().is_some() {
+            print::show(
+                b"  does NOT hold: the frame is refused, and no line 'refused' expects it\n",
+            );
+            self.holds = false;
         }
-        print::show(b"  does NOT hold: the frame is refused, and no line 'refused' expects it\n");
-        self.refused = 0;
-        self.holds = false;
         self
     }
 
     // A refusal is expected, with this number.
     pub fn expects(mut self, line: &[u8], number: &[u8]) -> Walk {
-        let code = self.refused;
-        self.refused = 0;
-        let met = 0 < code && conditions::is(code as u64, number);
+        let met = match self.refused.take() {
+            Some(code) => conditions::is(u64::from(code), number),
+            None => false,
+        };
         self.answered(line, met)
     }
 
@@ -79,22 +86,19 @@ impl Walk {
         if !met {
             print::line(b"  fails: ", line);
         }
-        self.asked = true;
-        self.met = self.met && met;
+        self.met = with(self.met, met);
         self.holds = self.holds && met;
         self
     }
 
     // A check of no condition does not hold.
     pub fn check(mut self, words: &[u8]) -> Walk {
-        let holds = self.asked && self.met;
+        let holds = self.met.take().unwrap_or(false);
         if holds {
             print::line(b"  holds: ", words);
         } else {
             print::line(b"  does NOT hold: ", words);
         }
-        self.asked = false;
-        self.met = true;
         self.checked = true;
         self.holds = self.holds && holds;
         self
@@ -102,15 +106,10 @@ impl Walk {
 
     // The walk's end. A walk that checks nothing does not hold.
     fn close(self) -> Walk {
-        let mut next = none();
-        next.some = self.some;
-        next.all = self.all;
         if !self.open {
-            return next;
+            return behind(self.all);
         }
         let holds = self.checked && self.holds;
-        next.some = true;
-        next.all = self.all && holds;
         if !self.checked {
             print::show(b"  no line 'check' stands in this walk\n");
         }
@@ -119,7 +118,7 @@ impl Walk {
         } else {
             print::show(b"The walk does NOT hold.\n\n");
         }
-        next
+        behind(with(self.all, holds))
     }
 }
 
@@ -133,12 +132,10 @@ pub fn begin(state: &mut State, before: Walk, title: &[u8]) -> Walk {
 // The list's end.
 pub fn end(before: Walk, words: &[u8]) -> Walk {
     let walk = before.close();
-    if !walk.some {
-        print::show(b"NOT all walks hold: the list has none.\n");
-    } else if walk.all {
-        print::line(b"All ", words);
-    } else {
-        print::line(b"NOT all ", words);
+    match walk.all {
+        None => print::show(b"NOT all walks hold: the list has none.\n"),
+        Some(true) => print::line(b"All ", words),
+        Some(false) => print::line(b"NOT all ", words),
     }
     walk
 }
@@ -150,23 +147,21 @@ fn hand(state: &mut State, log: &mut Log, before: Walk, digits: &[u8], frame: &[
     let a = engine::step(state, &mut work, &mut out, frame);
     let effects = part(&out, 0, a.length);
     print::step(digits, frame, a.code, effects);
-    let pen = before.log;
-    let mut walk = before.logged(pen.part(log, effects));
-    walk.refused = a.code;
+    let mut walk = before.logged(before.log.part(log, effects));
+    walk.refused = if a.code == 0 { None } else { Some(a.code) };
     walk
 }
 
 pub fn step(state: &mut State, log: &mut Log, before: Walk, line: &[u8]) -> Walk {
     let mut frame = [0u8; lines::MAX_FRAME];
-    let digits = split::rest(line);
+    let (_, digits) = split::cut(line);
     let n = lines::frame_of(digits, &mut frame);
     if n == 0 {
         print::line(b"  bad digits: ", digits);
         return before.answered(line, false);
     }
     let walk = hand(state, log, before, digits, part(&frame, 0, n));
-    let pen = walk.log;
-    if pen.ok {
+    if walk.log.ok {
         return walk;
     }
     print::show(b"  too many effects since the last mark\n");

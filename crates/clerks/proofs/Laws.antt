@@ -1,17 +1,16 @@
 -- What is printed for the one line of an input: each law's premises are what the callees ensure. Assumes nothing.
+use Rattle.std.specs.Prelude.{Option, Some, None, option_map}
 use Prim.Native.Nat.{ℕ, suc, ◌<◌}
 use mathlib.Core.Path.{◌≡◌, refl, sym, ap, ◌∙◌}
 use mathlib.Core.Bool.{true, false}
 use mathlib.Core.List.{List, [], ◌∷◌, ◌++◌, map}
-use mathlib.Core.Option.{Option}
 use lib.ListN.{length, take}
 use lib.Seq.{take-take}
 use Rattle.model.specs.Machine.{match◌none:◌some:◌}
 use Rattle.lines.specs.Lines.{max_digits, frame_of}
 use Rattle.lines.proofs.Theorems.{cut_same}
 use Rattle.input.specs.Input.{lines_of}
-use Rattle.input.specs.Only.{only, kept as held, OnlyRead}
-use Rattle.input.specs.declared.Only.{Only}
+use Rattle.input.specs.Only.{only, OnlyRead}
 use Rattle.clerks_model.specs.Answer.{Answer, no_frame, two_clerks}
 use Rattle.clerks_lines.specs.Text.{line, decimal, text_of, Starts}
 use Rattle.clerks.specs.Printed.{printed, Prints}
@@ -29,15 +28,15 @@ printed_cut n [] h = refl
 printed_cut n (s ∷ []) h = ap (λ (f : List ℕ). text_of (two_clerks f)) (frame_cut n s h)
 printed_cut n (s ∷ t ∷ lines) h = refl
 
-module _ {left kept text : List ℕ} {r : ℕ} (o : Only) (O : OnlyRead left kept o) (long : max_digits < length kept) where
-  prints : Starts (answer_to (held o.one (take o.have kept))) text r → Prints left text r
+module _ {left kept text : List ℕ} {r : ℕ} {o : Option ℕ} (O : OnlyRead left kept o) (long : max_digits < length kept) where
+  prints : Starts (answer_to (option_map (λ have. take have kept) o)) text r → Prints left text r
   unfolding printed answer_to
   prints S = record { more = O.more; is = rw (O.is, printed_cut (length kept) (lines_of (left ++ O.more)) long) at S }
 
-  pub prints_line : o.one ≡ true → Starts (text_of (two_clerks (frame_of (take o.have kept)))) text r → Prints left text r
+  pub prints_line : (have : ℕ) → o ≡ Some have → Starts (text_of (two_clerks (frame_of (take have kept)))) text r → Prints left text r
   unfolding answer_to match◌none:◌some:◌
-  prints_line e S = prints (rw e S)
+  prints_line have e S = prints (rw e S)
 
-  pub prints_none : o.one ≡ false → Starts (line (decimal no_frame)) text r → Prints left text r
+  pub prints_none : o ≡ None → Starts (line (decimal no_frame)) text r → Prints left text r
   unfolding answer_to match◌none:◌some:◌ text_of
   prints_none e S = prints (rw e S)

@@ -3,41 +3,32 @@
 
 ghost use Rattle.std.specs.Prelude.{◌≤◌, ◌<◌, length};
 ghost use Rattle.lines.specs.Lines.{max_digits};
-ghost use Rattle.input.specs.Ready.{between};
+ghost use Rattle.input.specs.Ready.{left_of};
 ghost use Rattle.clerks_lines.specs.Text.{text_bytes};
 ghost use Rattle.clerks.specs.Printed.{Prints};
 
 use clerks_bytes::NO_FRAME;
 use clerks_lines::TEXT;
-use std::io::Stdin;
+use input::Lines;
 
 // The file number of standard output.
 const STDOUT_FILENO: i32 = 1;
 
-// The answer to what is left of the chunk and to standard input.
-fn answer(
-    stdin: Stdin,
-    chunk: &mut [u8],
-    line: &mut [u8],
-    at: usize,
-    end: usize,
-    text: &mut [u8],
-) -> usize
-    requires { (at ≤ end) × (end ≤ length chunk.old) × (max_digits < length line.old) × (text_bytes ≤ length text.old) }
-    ensures { Prints (between at end chunk.old) text.new result }
+// The answer to what is left of the input.
+fn answer(input: &mut Lines, line: &mut [u8], text: &mut [u8]) -> usize
+    requires { (max_digits < length line.old) × (text_bytes ≤ length text.old) }
+    ensures { Prints (left_of input.old) text.new result }
 {
-    let only = input::only_line(stdin, chunk, line, at, end);
-    let have = only.have;
-    if only.one {
-        return clerks_lines::answer_line(&line[..have], text);
+    match input.only(line) {
+        Some(have) => clerks_lines::answer_line(&line[..have], text),
+        None => clerks_lines::put_number(text, NO_FRAME),
     }
-    clerks_lines::put_number(text, NO_FRAME)
 }
 
 fn main(rt: HostRuntime) {
-    let mut chunk = io::large_buffer();
-    let mut line = [0u8; lines::LINE];
-    let mut text = [0u8; TEXT];
-    let n = answer(rt.stdin(), &mut chunk, &mut line, 0, 0, &mut text);
+    let mut input = Lines::new(rt.stdin());
+    let mut line = [0; lines::LINE];
+    let mut text = [0; TEXT];
+    let n = answer(&mut input, &mut line, &mut text);
     io::write_all(STDOUT_FILENO, &text[..n]);
 }

@@ -1,10 +1,10 @@
 -- Laws of the attendee lists: an address stands in a list's bytes, or twice, where it does so in the list. Assumes nothing.
+use Rattle.std.specs.Prelude.{Option, Some, None}
 use Prim.Native.Nat.{ℕ, zero, suc, ◌+◌, ◌-◌, ◌≤◌, ◌<◌}
 use native.Mathlib.Omega.{arith}
 use native.Mathlib.Numerals.{add-one}
 use mathlib.Core.Path.{◌≡◌, refl, sym, ap, ap₂, ◌∙◌}
 use mathlib.Core.List.{List, [], ◌∷◌, ◌++◌}
-use mathlib.Core.Option.{Option, none, some}
 use mathlib.Core.Bool.{Bool, true, false, cond, not, ◌&&◌, ◌||◌}
 use lib.Dec.{ltb, eqb}
 use lib.ListN.{length, take, drop, get_or}
@@ -55,14 +55,14 @@ unfolding entry folded when◌then◌else◌
 nth_entry w [] = refl
 nth_entry w (a ∷ l) = go (same_text (to_ascii_lowercase a.address) w) (nth_entry w l)
   where
-    go : (b : Bool) → nth_in w 0 l ≡ entry w l → cond (b && eqb 0 0) (some a) (nth_in w (0 - one_if b) l) ≡ (when b then some a else entry w l)
+    go : (b : Bool) → nth_in w 0 l ≡ entry w l → cond (b && eqb 0 0) (Some a) (nth_in w (0 - one_if b) l) ≡ (when b then Some a else entry w l)
     go true ih = refl
     go false ih = ih
 
 there : (x : Option Attendee) → ltb 0 (length (entry_enc x)) ≡ is_some x
 unfolding is_some
-there none = refl
-there (some a) = lt-ltb 0 (length (attendee_f.enc a)) (present a)
+there None = refl
+there (Some a) = lt-ltb 0 (length (attendee_f.enc a)) (present a)
 
 pub stands_is : {s : List ℕ} {l : List Attendee} → Stood (list max_attendees attendee_f) s start l → (w : List ℕ) → stands_in s w ≡ is_some (entry (to_ascii_lowercase w) l)
 unfolding stands_in
@@ -80,19 +80,19 @@ stands_by s w e f = f ∙ ap (λ (x : List ℕ). ltb 0 (length x)) e
 -- ---- an address stands twice
 
 abbrev no_one : Attendee
-no_one = record { address = []; name = none; role = AttendeeRole.Required; participation = Participation.NeedsAction; kind = ParticipantKind.Individual }
+no_one = record { address = []; name = None; role = AttendeeRole.Required; participation = Participation.NeedsAction; kind = ParticipantKind.Individual }
 
 entry_snoc : (w : Text) (m : List Attendee) (a : Attendee) → is_some (entry w (m ++ a ∷ [])) ≡ (is_some (entry w m) || same_text (folded a) w)
 unfolding entry is_some when◌then◌else◌
 entry_snoc w [] a = go (same_text (folded a) w)
   where
-    go : (b : Bool) → is_some (when b then some a else none) ≡ b
+    go : (b : Bool) → is_some (when b then Some a else None) ≡ b
     go true = refl
     go false = refl
 entry_snoc w (x ∷ m) a = go (same_text (folded x) w) (entry_snoc w m a)
   where
     go : (b : Bool) → is_some (entry w (m ++ a ∷ [])) ≡ (is_some (entry w m) || same_text (folded a) w)
-        → is_some (when b then some x else entry w (m ++ a ∷ [])) ≡ (is_some (when b then some x else entry w m) || same_text (folded a) w)
+        → is_some (when b then Some x else entry w (m ++ a ∷ [])) ≡ (is_some (when b then Some x else entry w m) || same_text (folded a) w)
     go true ih = refl
     go false ih = ih
 
@@ -112,7 +112,7 @@ apart_snoc (b ∷ m) a =
     rw (entry_snoc (folded b) m a, apart_snoc m a, same_sym (folded a) (folded b))
     (go (is_some (entry (folded b) m)) (same_text (folded b) (folded a)) (apart m))
   where
-    go : (x y z : Bool) → (not (x || y) && (z && not (is_some (entry (folded a) m)))) ≡ ((not x && z) && not (is_some (when y then some b else entry (folded a) m)))
+    go : (x y z : Bool) → (not (x || y) && (z && not (is_some (entry (folded a) m)))) ≡ ((not x && z) && not (is_some (when y then Some b else entry (folded a) m)))
     go true y z = refl
     go false true true = refl
     go false true false = refl

@@ -1,9 +1,9 @@
 -- Laws of the frame's places: the bytes from a place on, where a frame ends, and what is read of a whole frame. Assumes nothing.
+use Rattle.std.specs.Prelude.{Some, None}
 use Prim.Native.Nat.{ℕ, ◌+◌, ◌-◌, ◌≤◌, ◌<◌}
 use native.Mathlib.Omega.{arith}
 use mathlib.Core.Path.{◌≡◌, refl, sym, ap, ◌∙◌}
 use mathlib.Core.List.{List, [], ◌∷◌}
-use mathlib.Core.Option.{none, some}
 use mathlib.Core.Bool.{true, false, not}
 use lib.Dec.{eqb}
 use lib.ListN.{length, drop, length-append, drop_of_length-le}
@@ -119,11 +119,11 @@ module _ (s : List ℕ) (c : Clerks) {event : Cursor} {first second : PartyRead}
       at e = ok_is ∙ ap (λ (x : Got model.Clerks). ends_at s (stepped s x)) e
 
       go : (x : Got model.Clerks) → clerks_f.dec s ≡ x → Read s c (whole_in x)
-      go none e = at e
-      go (some (v, [])) e =
+      go None e = at e
+      go (Some (v, [])) e =
           let r = clerks_f_law.reads s (v, []) e in
           let l : length s - 0 ≡ length s = omega arith in
           (at e ∙ eq-eqb (length s - 0) (length s) l, holds s v (record { fits = r.1; rest = []; bytes = r.0 }) c one_is two_is)
-      go (some (v, b ∷ t)) e =
+      go (Some (v, b ∷ t)) e =
           let l : length s ≡ length (clerks_f.enc v) + length (b ∷ t) = ap length (clerks_f_law.reads s (v, b ∷ t) e).0 ∙ length-append (clerks_f.enc v) (b ∷ t) in
           at e ∙ ne_eqb (length s - length (b ∷ t)) (length s) (λ k. omega arith)

@@ -1,8 +1,8 @@
 -- What is answered to a frame, by what the functions below `judge` found. Assumes nothing.
+use Rattle.std.specs.Prelude.{Option, Some, None}
 use Prim.Native.Nat.{ℕ}
 use mathlib.Core.Path.{◌≡◌, refl, sym, ap, ◌∙◌, subst}
 use mathlib.Core.List.{List}
-use mathlib.Core.Option.{Option, none, some}
 use mathlib.Core.Bool.{Bool, true, false, not, true≢false}
 use lib.ListN.{length}
 use lib.Dec.{T}
@@ -30,21 +30,21 @@ unfolding two_clerks answered
 fills_no_frame frame c one two r R e t = go (whole_of clerks_f frame) R
   where
     go : (x : Option model.Clerks) → Read frame c x → Filled (answered x) one two one two r
-    go none R = (t, refl, refl)
-    go (some v) R = absurd (true≢false (sym R.0 ∙ e))
+    go None R = (t, refl, refl)
+    go (Some v) R = absurd (true≢false (sym R.0 ∙ e))
 
 -- what a frame that is read holds
 record Held (frame : List ℕ) (c : Clerks) : Type 0 where
   v : model.Clerks
-  is : whole_of clerks_f frame ≡ some v
+  is : whole_of clerks_f frame ≡ Some v
   holds : Holds frame c v
 
 held : (frame : List ℕ) (c : Clerks) → Reads frame c → c.ok ≡ true → Held frame c
 held frame c R e = go (whole_of clerks_f frame) refl R
   where
     go : (x : Option model.Clerks) → whole_of clerks_f frame ≡ x → Read frame c x → Held frame c
-    go none h R = absurd (true≢false (sym e ∙ R))
-    go (some v) h R = record { v = v; is = h; holds = R.1 }
+    go None h R = absurd (true≢false (sym e ∙ R))
+    go (Some v) h R = record { v = v; is = h; holds = R.1 }
 
 -- ---- a frame that holds two clerks
 

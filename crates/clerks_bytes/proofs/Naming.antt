@@ -1,9 +1,9 @@
 -- The bytes that name a party for each unit are the model's names. Assumes nothing.
+use Rattle.std.specs.Prelude.{None}
 use Prim.Native.Nat.{ℕ, zero, suc, ◌≤◌}
 use native.Mathlib.Omega.{arith}
 use mathlib.Core.Path.{◌≡◌, refl, sym, ap, ap₂, ◌∙◌}
 use mathlib.Core.List.{List, [], ◌∷◌, ◌++◌, append_assoc}
-use mathlib.Core.Option.{none}
 use mathlib.Core.Bool.{Bool, true, false, cond, not, ◌&&◌, ◌||◌, and-true, or-false}
 use lib.Dec.{T}
 use lib.ListN.{length, take, get_or, replicate}
@@ -103,7 +103,7 @@ module _ (x y : Placed) (e : NormalizedEvent) where
 -- ---- the entries
 
 abbrev no_one : Attendee
-no_one = record { address = []; name = none; role = AttendeeRole.Required; participation = Participation.NeedsAction; kind = ParticipantKind.Individual }
+no_one = record { address = []; name = None; role = AttendeeRole.Required; participation = Participation.NeedsAction; kind = ParticipantKind.Individual }
 
 filter_append : {A : Type 0} (p : A → Bool) (a b : List A) → filter p (a ++ b) ≡ filter p a ++ filter p b
 unfolding filter when◌then◌else◌

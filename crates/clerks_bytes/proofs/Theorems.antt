@@ -1,9 +1,9 @@
 -- Every byte of a line names the party that can force its unit. Assumes nothing.
+use Rattle.std.specs.Prelude.{Option, Some, None}
 use Prim.Native.Nat.{ℕ}
 use native.Mathlib.Omega.{arith}
 use mathlib.Core.Path.{◌≡◌, refl, sym, ap, ◌∙◌, subst}
 use mathlib.Core.List.{List, [], ◌∷◌}
-use mathlib.Core.Option.{Option, none, some}
 use mathlib.Core.Bool.{Bool, true, false, not, ◌&&◌}
 use lib.ListN.{length, take}
 use lib.Seq.{take-append_seam}
@@ -51,7 +51,7 @@ line_right c p q ok ev first second a = record {
 
 record Judged (frame : Bytes) (a b : Bytes) : Type 0 where
   clerks : Clerks
-  held : whole_of clerks_f frame ≡ some clerks
+  held : whole_of clerks_f frame ≡ Some clerks
   apart_all : all_apart clerks ≡ true
   accepted_both : both_accepted clerks ≡ true
   one : a ≡ line clerks (party_one clerks) (party_two clerks)
@@ -90,8 +90,8 @@ unfolding two_clerks answered
 held_lines frame a b e = go (whole_of clerks_f frame) refl e
   where
     go : (x : Option Clerks) → whole_of clerks_f frame ≡ x → answered x ≡ Answer.Lines a b → Judged frame a b
-    go none h e = not_lines _ a b e
-    go (some c) h e =
+    go None h e = not_lines _ a b e
+    go (Some c) h e =
         let j = judged_lines c a b e in
         record { clerks = c; held = h; apart_all = j.0; accepted_both = j.1.0; one = j.1.1.0; two = j.1.1.1 }
 

@@ -1,6 +1,5 @@
 -- What stands at the places of a frame's parts. Assumes nothing.
-use Rattle.std.specs.Prelude.{ℕ, ◌≡◌, List, Bool, true, false, ◌&&◌, eqb, length, drop}
-use Rattle.std.proofs.Math.Option.{Option, none, some}
+use Rattle.std.specs.Prelude.{ℕ, ◌≡◌, List, Bool, true, false, ◌&&◌, eqb, length, drop, Option, Some, None}
 use Rattle.format.specs.Format.{whole_of}
 use Rattle.model.specs.Formats.{fields_f, event_f, role_f}
 use Rattle.frame.specs.declared.Cursor.{Cursor}
@@ -29,8 +28,8 @@ pub record Holds (frame : List ℕ) (c : Clerks) (v : model.Clerks) : Type 0 whe
 
 -- what is read of a frame
 abbrev pub Read : List ℕ → Clerks → Option model.Clerks → Type 0
-Read frame c none = c.ok ≡ false
-Read frame c (some v) = (c.ok ≡ true) × Holds frame c v
+Read frame c None = c.ok ≡ false
+Read frame c (Some v) = (c.ok ≡ true) × Holds frame c v
 
 abbrev pub Reads : List ℕ → Clerks → Type 0
 Reads frame c = Read frame c (whole_of clerks_f frame)

@@ -5,16 +5,13 @@
 mod naming;
 mod said;
 
-use comparison::part;
+use input::Lines;
 
 fn main(rt: HostRuntime) {
-    let mut chunk = io::large_buffer();
-    let mut line = [0u8; lines::LINE];
-    let only = input::only_line(rt.stdin(), &mut chunk, &mut line, 0, 0);
-    let have = only.have;
-    if only.one {
-        said::explain(part(&line, 0, have));
-        return;
+    let mut input = Lines::new(rt.stdin());
+    let mut line = [0; lines::LINE];
+    match input.only(&mut line) {
+        Some(have) => said::explain(&line[..have]),
+        None => said::no_frame(b"standard input is not just one line"),
     }
-    said::no_frame(b"standard input is not just one line");
 }

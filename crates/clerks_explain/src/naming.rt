@@ -5,104 +5,89 @@ ghost use Rattle.phrases.specs.Shown.{plain, Ready, Shows};
 use crate::said::head;
 use clerks_bytes::{from, list_of, stands};
 use pens::Pen;
+use std::slice::Iter;
 
 pub fn say_units(order: &[u8], frame: &[u8], names: &[u8])
     requires { T (plain order.now) }
 {
-    let c = clerks_bytes::clerks_in(frame);
-    let p = c.one;
-    let q = c.two;
+    let clerks = clerks_bytes::clerks_in(frame);
     let list = list_of(merge::fields_of(frame));
-    let one = list_of(from(frame, p.wanted));
-    let two = list_of(from(frame, q.wanted));
-    let none = &list[..0];
-    let before = say_before(order, names);
-    let base = say_new(order, names, before, list, none, none);
-    let first = say_new(order, names, base, one, list, none);
-    let second = say_new(order, names, first, two, list, one);
-    say_behind(order, names, second);
+    let one = list_of(from(frame, clerks.one.wanted));
+    let two = list_of(from(frame, clerks.two.wanted));
+    let mut left = names.iter();
+    say_before(order, &mut left);
+    say_new(order, &mut left, list, &[], &[]);
+    say_new(order, &mut left, one, list, &[]);
+    say_new(order, &mut left, two, list, one);
+    say_behind(order, &mut left);
 }
 
-fn say_before(order: &[u8], names: &[u8]) -> usize
+fn say_before(order: &[u8], names: &mut Iter<'_, u8>)
     requires { T (plain order.now) }
 {
-    let title = say_field(order, names, 0, b", title");
-    let times = say_field(order, names, title, b", times");
-    let recurrence = say_field(order, names, times, b", recurrence");
-    say_field(order, names, recurrence, b", organizer")
+    say_field(order, names, b", title");
+    say_field(order, names, b", times");
+    say_field(order, names, b", recurrence");
+    say_field(order, names, b", organizer");
 }
 
-fn say_behind(order: &[u8], names: &[u8], at: usize)
+fn say_behind(order: &[u8], names: &mut Iter<'_, u8>)
     requires { T (plain order.now) }
 {
-    let location = say_field(order, names, at, b", location");
-    let description = say_field(order, names, location, b", description");
-    let status = say_field(order, names, description, b", status");
-    let transparency = say_field(order, names, status, b", transparency");
-    let visibility = say_field(order, names, transparency, b", visibility");
-    say_field(order, names, visibility, b", reminders");
+    say_field(order, names, b", location");
+    say_field(order, names, b", description");
+    say_field(order, names, b", status");
+    say_field(order, names, b", transparency");
+    say_field(order, names, b", visibility");
+    say_field(order, names, b", reminders");
 }
 
 // The entries that neither of two lists has.
-fn say_new<'a>(
-    order: &[u8],
-    names: &[u8],
-    at: usize,
-    entries: &'a [u8],
-    before: &'a [u8],
-    also: &'a [u8],
-) -> usize
+fn say_new(order: &[u8], names: &mut Iter<'_, u8>, entries: &[u8], before: &[u8], also: &[u8])
     requires { T (plain order.now) }
 {
-    let mut next = at;
-    let count = attendees::entry_count(entries);
-    let mut i: u8 = 0;
-    while i < count {
+    for i in 0..attendees::entry_count(entries) {
         let address = attendees::address(attendees::entry_part(entries, i));
-        if !stands(before, address) {
-            if !stands(also, address) {
-                next = say_entry(order, names, next, address);
-            }
+        if !stands(before, address) && !stands(also, address) {
+            say_entry(order, names, address);
         }
-        i += 1;
     }
-    next
 }
 
-fn say_entry(order: &[u8], names: &[u8], at: usize, address: &[u8]) -> usize
+fn say_entry(order: &[u8], names: &mut Iter<'_, u8>, address: &[u8])
     requires { T (plain order.now) }
 {
-    let reply = say_attendee(order, names, at, b", entry of attendee ", address);
-    say_attendee(order, names, reply, b", reply of attendee ", address)
+    say_attendee(order, names, b", entry of attendee ", address);
+    say_attendee(order, names, b", reply of attendee ", address);
 }
 
-fn say_attendee(order: &[u8], names: &[u8], at: usize, what: &[u8], address: &[u8]) -> usize
-    requires { T (plain order.now) × T (plain what.now) }
+fn say_attendee(order: &[u8], names: &mut Iter<'_, u8>, what: &[u8], address: &[u8])
+    requires plain_order { T (plain order.now) }
+    requires plain_what { T (plain what.now) }
 {
     let mut text = [0u8; 4096];
     let start = head(&mut text, order, what);
     let end = phrases::quoted(start, &mut text, address);
-    say_name(&mut text, end, names, at)
+    say_name(&mut text, end, names);
 }
 
-fn say_field(order: &[u8], names: &[u8], at: usize, what: &[u8]) -> usize
-    requires { T (plain order.now) × T (plain what.now) }
+fn say_field(order: &[u8], names: &mut Iter<'_, u8>, what: &[u8])
+    requires plain_order { T (plain order.now) }
+    requires plain_what { T (plain what.now) }
 {
     let mut text = [0u8; 4096];
     let end = head(&mut text, order, what);
-    say_name(&mut text, end, names, at)
+    say_name(&mut text, end, names);
 }
 
-// Ends a unit's line by the name at a place, and answers the place after it.
-fn say_name(text: &mut [u8], pen: Pen, names: &[u8], at: usize) -> usize
+// Ends a unit's line by the next name.
+fn say_name(text: &mut [u8], pen: Pen, names: &mut Iter<'_, u8>)
     requires { Ready text.old pen }
 {
-    if names.len() <= at {
-        return at;
+    if let Some(name) = names.next() {
+        let end = who(pen, text, *name);
+        phrases::print_line(text, end);
     }
-    let end = who(pen, text, names[at]);
-    phrases::print_line(text, end);
-    at + 1
 }
 
 fn who(pen: Pen, text: &mut [u8], name: u8) -> Pen

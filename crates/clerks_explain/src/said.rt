@@ -34,7 +34,8 @@ pub fn explain(line: &[u8]) {
 
 // The first words of a line.
 pub fn head(text: &mut [u8], what: &[u8], then: &[u8]) -> Pen
-    requires { T (plain what.now) × T (plain then.now) }
+    requires plain_what { T (plain what.now) }
+    requires plain_then { T (plain then.now) }
     ensures { Ready text.new result }
 {
     let start = Pen { at: 0, ok: true };
@@ -63,30 +64,27 @@ fn no_clerks(frame: &[u8]) {
 
 fn refused(code: u8) {
     let mut text = [0u8; 4096];
-    if code == ADDRESS_TWICE {
-        let end = head(
+    let end = if code == ADDRESS_TWICE {
+        head(
             &mut text,
             b"refused with 10: ",
             b"one attendee list has the same address twice, capitals or not",
-        );
-        phrases::print_line(&mut text, end);
-        return;
-    }
-    let end = head(
-        &mut text,
-        b"refused with 6: ",
-        b"a merged event has over 8 attendees",
-    );
+        )
+    } else {
+        head(
+            &mut text,
+            b"refused with 6: ",
+            b"a merged event has over 8 attendees",
+        )
+    };
     phrases::print_line(&mut text, end);
 }
 
 fn say_parties(frame: &[u8]) {
-    let c = clerks_bytes::clerks_in(frame);
-    let p = c.one;
-    let q = c.two;
+    let clerks = clerks_bytes::clerks_in(frame);
     say_event(b"booking", b": ", frame);
-    say_party(b"party 1: ", clerks_bytes::from(frame, p.role));
-    say_party(b"party 2: ", clerks_bytes::from(frame, q.role));
+    say_party(b"party 1: ", clerks_bytes::from(frame, clerks.one.role));
+    say_party(b"party 2: ", clerks_bytes::from(frame, clerks.two.role));
 }
 
 fn say_party(who: &[u8], bytes: &[u8])
@@ -99,7 +97,8 @@ fn say_party(who: &[u8], bytes: &[u8])
 }
 
 fn say_event(what: &[u8], then: &[u8], bytes: &[u8])
-    requires { T (plain what.now) × T (plain then.now) }
+    requires plain_what { T (plain what.now) }
+    requires plain_then { T (plain then.now) }
 {
     let mut text = [0u8; 65536];
     let start = head(&mut text, what, then);

@@ -1,9 +1,9 @@
 -- How many entries a merged list has: no more than a list that has each of them. So a first write is never refused. Assumes nothing.
+use Rattle.std.specs.Prelude.{Option, Some, None}
 use Prim.Native.Nat.{ℕ, ◌+◌, ◌≤◌}
 use native.Mathlib.Omega.{arith}
 use mathlib.Core.Path.{◌≡◌, refl, sym, ap, ◌∙◌, subst}
 use mathlib.Core.List.{List, [], ◌∷◌}
-use mathlib.Core.Option.{Option, none, some}
 use lib.ListN.{length}
 use lib.Dec.{leb→le, le→leb, T}
 use Rattle.model.specs.Event.{Text, Attendee, NormalizedEvent, ProviderEvent}
@@ -34,20 +34,20 @@ module _ (role : Role) (b o t l : List Attendee)
       is : k ≡ first_key k.address
       is = ap (λ (n : ℕ). record { address = k.address; occurrence = n }) e
 
-      here : (v : Attendee) → (entry_at role (keyed b) (keyed o) (keyed t) k).value ≡ some v → T (is_some (find (keyed l) k))
+      here : (v : Attendee) → (entry_at role (keyed b) (keyed o) (keyed t) k).value ≡ Some v → T (is_some (find (keyed l) k))
       here v h = subst (λ (x : Option Attendee). T (is_some x)) (sym (ap (λ (k : Key). find (keyed l) k) is ∙ find_keyed l k.address))
           (each k.address (subst (λ (x : Option Attendee). T (is_some x))
           (sym (sym (at_first role b o t k.address) ∙ ap (λ (k : Key). (entry_at role (keyed b) (keyed o) (keyed t) k).value) (sym is) ∙ h)) tt))
 
       one : (x : Option Attendee) → T (is_some x) → 1 ≤ side 1 x
-      one none t = absurd t
-      one (some x) t = omega arith
+      one None t = absurd t
+      one (Some x) t = omega arith
 
       go : (v : Option Attendee) → (entry_at role (keyed b) (keyed o) (keyed t) k).value ≡ v
           → length (entries_at role (keyed b) (keyed o) (keyed t) ks).value ≤ weigh (λ k. side 1 (find (keyed l) k)) ks
           → length (extend role (keyed b) (keyed o) (keyed t) v (entries_at role (keyed b) (keyed o) (keyed t) ks).value) ≤ side 1 (find (keyed l) k) + weigh (λ k. side 1 (find (keyed l) k)) ks
-      go none h ih = omega (arith, ih)
-      go (some v) h ih = omega (arith, ih, one (find (keyed l) k) (here v h))
+      go None h ih = omega (arith, ih)
+      go (Some v) h ih = omega (arith, ih, one (find (keyed l) k) (here v h))
 
   no_more : T (apart o) → T (apart t) → length (merge_attendees role b o t).value ≤ length l
   unfolding merge_attendees

@@ -1,9 +1,10 @@
 -- The entry with a folded address in a merged list is the merge of the entries with it, and no folded address is there twice. Assumes nothing.
+use Rattle.std.specs.Prelude.{Option, Some, None}
+use Rattle.format.proofs.Options.{None-ne-Some}
 use Prim.Native.Nat.{ℕ, ◌+◌}
 use native.Mathlib.Omega.{arith}
 use mathlib.Core.Path.{◌≡◌, refl, sym, ap, ap₂, ◌∙◌}
 use mathlib.Core.List.{List, [], ◌∷◌, ◌++◌}
-use mathlib.Core.Option.{Option, none, some, none-ne-some}
 use mathlib.Core.Bool.{Bool, true, false, not, ◌||◌, true≢false}
 use lib.Dec.{T}
 use Rattle.format.specs.Format.{option}
@@ -32,11 +33,11 @@ whole_named key owned b o t p q = part_named key b o t _ (part_is (option attend
 
 own_named : (key : Text) (b o t : Option Attendee) → Called key o → Called key t → Called key (own_entry b o t).value
 unfolding own_entry own_removed own_standing with_participation rest folded
-own_named key none o t p q = whole_named key false none o t p q
-own_named key (some b) none t p q = whole_named key false (some b) none t p q
-own_named key (some b) (some o) none p q = nobody
-own_named key (some b) (some o) (some t) p (someone t' e) =
-    rw (part_theirs attendee_f (λ r. FieldValue.Attendee (some r)) Field.Attendees (some t'.address) (rest b) (rest o) (rest t')).value
+own_named key None o t p q = whole_named key false None o t p q
+own_named key (Some b) None t p q = whole_named key false (Some b) None t p q
+own_named key (Some b) (Some o) None p q = nobody
+own_named key (Some b) (Some o) (Some t) p (someone t' e) =
+    rw (part_theirs attendee_f (λ r. FieldValue.Attendee (Some r)) Field.Attendees (Some t'.address) (rest b) (rest o) (rest t')).value
     (someone (with_participation (own_reply b o t').value (rest t')) e)
 
 module _ (role : Role) (b o t : Keyed) (co : (k : Key) → Called k.address (find o k)) (ct : (k : Key) → Called k.address (find t k)) where
@@ -51,19 +52,19 @@ module _ (role : Role) (b o t : Keyed) (co : (k : Key) → Called k.address (fin
   entry_extend : (key : Text) (v : Option Attendee) (l : List Attendee) (k : Key) → Called k.address v → same_text k.address key ≡ false
       → entry key (extend role b o t v l) ≡ entry key l
   unfolding extend entry when◌then◌else◌
-  entry_extend key none l k nobody e = refl
-  entry_extend key (some v) l k (someone v' f) e = rw (f, e) refl
+  entry_extend key None l k nobody e = refl
+  entry_extend key (Some v) l k (someone v' f) e = rw (f, e) refl
 
-  entry_here : (key : Text) (v : Option Attendee) (l : List Attendee) → Called key v → (v ≡ none → entry key l ≡ none) → entry key (extend role b o t v l) ≡ v
+  entry_here : (key : Text) (v : Option Attendee) (l : List Attendee) → Called key v → (v ≡ None → entry key l ≡ None) → entry key (extend role b o t v l) ≡ v
   unfolding extend entry when◌then◌else◌
-  entry_here key none l nobody n = n refl
-  entry_here key (some v) l (someone v' f) n = rw (f, same_self key) refl
+  entry_here key None l nobody n = n refl
+  entry_here key (Some v) l (someone v' f) n = rw (f, same_self key) refl
 
   key_is : (k : Key) (key : Text) → k.occurrence ≡ 0 → same_text k.address key ≡ true → k ≡ first_key key
   key_is k key e f = ap₂ (λ (x : Text) (n : ℕ). record { address = x; occurrence = n }) (same_true k.address key f) e
 
   entry_in : (key : Text) (ks : List Key) → Firsts ks
-      → entry key (entries_at role b o t ks).value ≡ (when any (λ k. same_text k.address key) ks then (entry_at role b o t (first_key key)).value else none)
+      → entry key (entries_at role b o t ks).value ≡ (when any (λ k. same_text k.address key) ks then (entry_at role b o t (first_key key)).value else None)
   unfolding entries_at any when◌then◌else◌ unreported entry
   entry_in key [] firsts_end = refl
   entry_in key (k ∷ ks) (firsts_more k' ks' e f) = go (same_text k.address key) refl (entry_in key ks f)
@@ -71,12 +72,12 @@ module _ (role : Role) (b o t : Keyed) (co : (k : Key) → Called k.address (fin
       own : Option Attendee
       own = (entry_at role b o t (first_key key)).value
 
-      none_then : (c : Bool) → own ≡ none → (when c then own else none) ≡ none
+      none_then : (c : Bool) → own ≡ None → (when c then own else None) ≡ None
       none_then true e = e
       none_then false e = refl
 
-      go : (c : Bool) → same_text k.address key ≡ c → entry key (entries_at role b o t ks).value ≡ (when any (λ k. same_text k.address key) ks then own else none)
-          → entry key (extend role b o t (entry_at role b o t k).value (entries_at role b o t ks).value) ≡ (when c || any (λ k. same_text k.address key) ks then own else none)
+      go : (c : Bool) → same_text k.address key ≡ c → entry key (entries_at role b o t ks).value ≡ (when any (λ k. same_text k.address key) ks then own else None)
+          → entry key (extend role b o t (entry_at role b o t k).value (entries_at role b o t ks).value) ≡ (when c || any (λ k. same_text k.address key) ks then own else None)
       go false g ih = entry_extend key (entry_at role b o t k).value _ k (at_named k) g ∙ ih
       go true g ih =
           let same-value : (entry_at role b o t k).value ≡ own = ap (λ (k : Key). (entry_at role b o t k).value) (key_is k key e g) in
@@ -110,20 +111,20 @@ unfolding any
 any_right p [] b e = e
 any_right p (k ∷ a) b e = or_true_right (p k) (any p (a ++ b)) (any_right p a b e)
 
-found_here : (t : Keyed) (key : Text) (a : Attendee) → find t (first_key key) ≡ some a → any (has_address key) (keys t) ≡ true
+found_here : (t : Keyed) (key : Text) (a : Attendee) → find t (first_key key) ≡ Some a → any (has_address key) (keys t) ≡ true
 unfolding find when◌then◌else◌ any map
-found_here [] key a e = absurd (none-ne-some a e)
+found_here [] key a e = absurd (None-ne-Some a e)
 found_here (x ∷ t) key a e = go (same_key x.0 (first_key key)) refl (found_here t key a) e
   where
-    go : (c : Bool) → same_key x.0 (first_key key) ≡ c → (find t (first_key key) ≡ some a → any (has_address key) (keys t) ≡ true)
-        → (when c then some x.1 else find t (first_key key)) ≡ some a → (has_address key x.0 || any (has_address key) (keys t)) ≡ true
+    go : (c : Bool) → same_key x.0 (first_key key) ≡ c → (find t (first_key key) ≡ Some a → any (has_address key) (keys t) ≡ true)
+        → (when c then Some x.1 else find t (first_key key)) ≡ Some a → (has_address key x.0 || any (has_address key) (keys t)) ≡ true
     go true h ih e = or_true_left _ _ (ap (λ (k : Key). same_text k.address key) (same_key_is x.0 (first_key key) h) ∙ same_self key)
     go false h ih e = or_true_right (has_address key x.0) _ (ih e)
 
-found_new : (o t : Keyed) (key : Text) (a : Attendee) → find o (first_key key) ≡ some a → find t (first_key key) ≡ none
+found_new : (o t : Keyed) (key : Text) (a : Attendee) → find o (first_key key) ≡ Some a → find t (first_key key) ≡ None
     → any (has_address key) (filter (λ k. not (is_some (find t k))) (keys o)) ≡ true
 unfolding find when◌then◌else◌ any map filter is_some
-found_new [] t key a e n = absurd (none-ne-some a e)
+found_new [] t key a e n = absurd (None-ne-Some a e)
 found_new (x ∷ o) t key a e n = go (same_key x.0 (first_key key)) refl (found_new o t key a) e
   where
     more : Key → List Key → Bool → List Key
@@ -134,8 +135,8 @@ found_new (x ∷ o) t key a e n = go (same_key x.0 (first_key key)) refl (found_
     any_more k ks false e = e
 
     go : (c : Bool) → same_key x.0 (first_key key) ≡ c
-        → (find o (first_key key) ≡ some a → find t (first_key key) ≡ none → any (has_address key) (filter (λ k. not (is_some (find t k))) (keys o)) ≡ true)
-        → (when c then some x.1 else find o (first_key key)) ≡ some a
+        → (find o (first_key key) ≡ Some a → find t (first_key key) ≡ None → any (has_address key) (filter (λ k. not (is_some (find t k))) (keys o)) ≡ true)
+        → (when c then Some x.1 else find o (first_key key)) ≡ Some a
         → any (has_address key) (more x.0 (filter (λ k. not (is_some (find t k))) (keys o)) (not (is_some (find t x.0)))) ≡ true
     go true h ih e =
         let is : x.0 ≡ first_key key = same_key_is x.0 (first_key key) h in
@@ -143,20 +144,20 @@ found_new (x ∷ o) t key a e n = go (same_key x.0 (first_key key)) refl (found_
         ∙ or_true_left _ _ (ap (λ (k : Key). same_text k.address key) is ∙ same_self key)
     go false h ih e = any_more x.0 _ (not (is_some (find t x.0))) (ih e n)
 
-both_none : (role : Role) (b o t : Keyed) (k : Key) → find o k ≡ none → find t k ≡ none → (entry_at role b o t k).value ≡ none
+both_none : (role : Role) (b o t : Keyed) (k : Key) → find o k ≡ None → find t k ≡ None → (entry_at role b o t k).value ≡ None
 unfolding entry_at when◌then◌else◌ own_entry whole_entry
 both_none role b o t k e f = rw (e, f) (go (is_own role k) (find b k))
   where
-    nothing_else : (b v : Option Attendee) → Part (option attendee_f) b none none v → v ≡ none
+    nothing_else : (b v : Option Attendee) → Part (option attendee_f) b None None v → v ≡ None
     nothing_else b v stays = refl
     nothing_else b v (moves e) = refl
 
-    whole : (owned : Bool) (b : Option Attendee) → (whole_entry owned b none none).value ≡ none
-    whole owned b = nothing_else b _ (part_is (option attendee_f) FieldValue.Attendee Field.Attendees _ owned b none none)
+    whole : (owned : Bool) (b : Option Attendee) → (whole_entry owned b None None).value ≡ None
+    whole owned b = nothing_else b _ (part_is (option attendee_f) FieldValue.Attendee Field.Attendees _ owned b None None)
 
-    go : (c : Bool) (b : Option Attendee) → (when c then own_entry b none none else whole_entry (is_owner role) b none none).value ≡ none
-    go true none = whole false none
-    go true (some b) = whole false (some b)
+    go : (c : Bool) (b : Option Attendee) → (when c then own_entry b None None else whole_entry (is_owner role) b None None).value ≡ None
+    go true None = whole false None
+    go true (Some b) = whole false (Some b)
     go false b = whole (is_owner role) b
 
 -- one entry merged
@@ -181,10 +182,10 @@ merged_entry role b o t key p q =
     ks : List Key
     ks = key_order (keyed o) (keyed t)
 
-    go : (x : Option Attendee) → find (keyed t) (first_key key) ≡ x → (y : Option Attendee) → find (keyed o) (first_key key) ≡ y → (when any (has_address key) ks then at else none) ≡ at
-    go (some a) e y f = ap (λ (c : Bool). when c then at else none) (any_left (has_address key) (keys (keyed t)) _ (found_here (keyed t) key a e))
-    go none e (some a) f = ap (λ (c : Bool). when c then at else none) (any_right (has_address key) (keys (keyed t)) _ (found_new (keyed o) (keyed t) key a f e))
-    go none e none f = elim (any (has_address key) ks) as (λ c. (when c then at else none) ≡ at) [ true ↦ refl | false ↦ sym (both_none role (keyed b) (keyed o) (keyed t) (first_key key) f e) ]
+    go : (x : Option Attendee) → find (keyed t) (first_key key) ≡ x → (y : Option Attendee) → find (keyed o) (first_key key) ≡ y → (when any (has_address key) ks then at else None) ≡ at
+    go (Some a) e y f = ap (λ (c : Bool). when c then at else None) (any_left (has_address key) (keys (keyed t)) _ (found_here (keyed t) key a e))
+    go None e (Some a) f = ap (λ (c : Bool). when c then at else None) (any_right (has_address key) (keys (keyed t)) _ (found_new (keyed o) (keyed t) key a f e))
+    go None e None f = elim (any (has_address key) ks) as (λ c. (when c then at else None) ≡ at) [ true ↦ refl | false ↦ sym (both_none role (keyed b) (keyed o) (keyed t) (first_key key) f e) ]
 
 -- ---- no folded address twice in the merged list
 
@@ -211,12 +212,12 @@ module _ (role : Role) (b o t : Keyed) (co : (k : Key) → Called k.address (fin
       once : hits k ks ≡ 0
       once = omega (arith, d k, ap one_if (same_key_self k))
 
-      alone : entry k.address (entries_at role b o t ks).value ≡ none
-      alone = entry_in role b o t co ct k.address ks f ∙ ap (λ (c : Bool). when c then (entry_at role b o t (first_key k.address)).value else none) (absent_key k ks e f once)
+      alone : entry k.address (entries_at role b o t ks).value ≡ None
+      alone = entry_in role b o t co ct k.address ks f ∙ ap (λ (c : Bool). when c then (entry_at role b o t (first_key k.address)).value else None) (absent_key k ks e f once)
 
       go : (v : Option Attendee) → Called k.address v → T (apart (entries_at role b o t ks).value) → T (apart (extend role b o t v (entries_at role b o t ks).value))
-      go none nobody ih = ih
-      go (some v) (someone v' g) ih = and_both (not (is_some (entry (folded v') (entries_at role b o t ks).value))) _
+      go None nobody ih = ih
+      go (Some v) (someone v' g) ih = and_both (not (is_some (entry (folded v') (entries_at role b o t ks).value))) _
           (rw (g, alone) tt) ih
 
 merged_apart : (role : Role) (b o t : List Attendee) → T (apart o) → T (apart t) → T (apart (merge_attendees role b o t).value)

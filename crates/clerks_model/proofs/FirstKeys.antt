@@ -1,8 +1,9 @@
 -- The first entry with a folded address has the key of occurrence 0, and a list whose addresses are apart has no other keys. Assumes nothing.
+use Rattle.std.specs.Prelude.{Option, Some, None}
+use Rattle.format.proofs.Options.{None-ne-Some}
 use Prim.Native.Nat.{ℕ}
 use mathlib.Core.Path.{◌≡◌, refl, sym, ap, ap₂, ◌∙◌, subst}
 use mathlib.Core.List.{List, [], ◌∷◌, ◌++◌}
-use mathlib.Core.Option.{Option, none, some, none-ne-some}
 use mathlib.Core.Bool.{Bool, true, false, not, ◌&&◌, true≢false}
 use lib.ListN.{length}
 use lib.Dec.{eqb, T}
@@ -19,27 +20,27 @@ first_key address = record { address = address; occurrence = 0 }
 
 -- ---- the first entry with an address has the key of occurrence 0
 
-find_keeps : (out l : Keyed) (k : Key) (a : Attendee) → find out k ≡ some a → find (out ++ l) k ≡ some a
+find_keeps : (out l : Keyed) (k : Key) (a : Attendee) → find out k ≡ Some a → find (out ++ l) k ≡ Some a
 unfolding find when◌then◌else◌
-find_keeps [] l k a e = absurd (none-ne-some a e)
+find_keeps [] l k a e = absurd (None-ne-Some a e)
 find_keeps (x ∷ out) l k a e = go (same_key x.0 k) (find_keeps out l k a) e
   where
-    go : (c : Bool) → (find out k ≡ some a → find (out ++ l) k ≡ some a) → (when c then some x.1 else find out k) ≡ some a
-        → (when c then some x.1 else find (out ++ l) k) ≡ some a
+    go : (c : Bool) → (find out k ≡ Some a → find (out ++ l) k ≡ Some a) → (when c then Some x.1 else find out k) ≡ Some a
+        → (when c then Some x.1 else find (out ++ l) k) ≡ Some a
     go true ih e = e
     go false ih e = ih e
 
-find_snoc : (out : Keyed) (e : Key × Attendee) (k : Key) → find out k ≡ none → find (out ++ e ∷ []) k ≡ (when same_key e.0 k then some e.1 else none)
+find_snoc : (out : Keyed) (e : Key × Attendee) (k : Key) → find out k ≡ None → find (out ++ e ∷ []) k ≡ (when same_key e.0 k then Some e.1 else None)
 unfolding find when◌then◌else◌
 find_snoc [] e k n = refl
 find_snoc (x ∷ out) e k n = go (same_key x.0 k) (find_snoc out e k) n
   where
-    go : (c : Bool) → (find out k ≡ none → find (out ++ e ∷ []) k ≡ (when same_key e.0 k then some e.1 else none)) → (when c then some x.1 else find out k) ≡ none
-        → (when c then some x.1 else find (out ++ e ∷ []) k) ≡ (when same_key e.0 k then some e.1 else none)
-    go true ih n = absurd (none-ne-some x.1 (sym n))
+    go : (c : Bool) → (find out k ≡ None → find (out ++ e ∷ []) k ≡ (when same_key e.0 k then Some e.1 else None)) → (when c then Some x.1 else find out k) ≡ None
+        → (when c then Some x.1 else find (out ++ e ∷ []) k) ≡ (when same_key e.0 k then Some e.1 else None)
+    go true ih n = absurd (None-ne-Some x.1 (sym n))
     go false ih n = ih n
 
-find_after_keeps : (out : Keyed) (l : List Attendee) (k : Key) (a : Attendee) → find out k ≡ some a → find (keyed_after out l) k ≡ some a
+find_after_keeps : (out : Keyed) (l : List Attendee) (k : Key) (a : Attendee) → find out k ≡ Some a → find (keyed_after out l) k ≡ Some a
 unfolding keyed_after
 find_after_keeps out [] k a e = e
 find_after_keeps out (x ∷ l) k a e = find_after_keeps (out ++ (key_of out x, x) ∷ []) l k a (find_keeps out _ k a e)
@@ -77,21 +78,21 @@ first_of_all out a key w e =
     ap₂ (λ (x : Text) (n : ℕ). record { address = x; occurrence = n }) e
     (ap (λ (x : Text). length (filter (λ (e : Key × Attendee). same_text e.0.address x) out)) e ∙ ap (λ (l : Keyed). length l) w)
 
-find_first : (out : Keyed) (l : List Attendee) (key : Text) → find out (first_key key) ≡ none → Without out key → find (keyed_after out l) (first_key key) ≡ entry key l
+find_first : (out : Keyed) (l : List Attendee) (key : Text) → find out (first_key key) ≡ None → Without out key → find (keyed_after out l) (first_key key) ≡ entry key l
 unfolding keyed_after entry when◌then◌else◌
 find_first out [] key n w = n
 find_first out (a ∷ l) key n w = go (same_text (folded a) key) refl (find_first (out ++ (key_of out a, a) ∷ []) l key)
   where
     go : (c : Bool) → same_text (folded a) key ≡ c
-        → (find (out ++ (key_of out a, a) ∷ []) (first_key key) ≡ none → Without (out ++ (key_of out a, a) ∷ []) key
+        → (find (out ++ (key_of out a, a) ∷ []) (first_key key) ≡ None → Without (out ++ (key_of out a, a) ∷ []) key
         → find (keyed_after (out ++ (key_of out a, a) ∷ []) l) (first_key key) ≡ entry key l)
-        → find (keyed_after (out ++ (key_of out a, a) ∷ []) l) (first_key key) ≡ (when c then some a else entry key l)
+        → find (keyed_after (out ++ (key_of out a, a) ∷ []) l) (first_key key) ≡ (when c then Some a else entry key l)
     go true e ih = find_after_keeps (out ++ (key_of out a, a) ∷ []) l (first_key key) a
         (find_snoc out (key_of out a, a) (first_key key) n
-        ∙ ap (λ (c : Bool). when c then some a else none)
+        ∙ ap (λ (c : Bool). when c then Some a else None)
         (ap (λ (k : Key). same_key k (first_key key)) (first_of_all out a key w (same_true (folded a) key e)) ∙ same_key_self (first_key key)))
     go false e ih = ih
-        (find_snoc out (key_of out a, a) (first_key key) n ∙ ap (λ (c : Bool). when c then some a else none) (other_key (key_of out a) key (ap (λ (x : Text). same_text x key) (key_named out a) ∙ e)))
+        (find_snoc out (key_of out a, a) (first_key key) n ∙ ap (λ (c : Bool). when c then Some a else None) (other_key (key_of out a) key (ap (λ (x : Text). same_text x key) (key_named out a) ∙ e)))
         (without_snoc out (key_of out a, a) key w (ap (λ (x : Text). same_text x key) (key_named out a) ∙ e))
 
 pub find_keyed : (l : List Attendee) (key : Text) → find (keyed l) (first_key key) ≡ entry key l
@@ -119,12 +120,12 @@ data Clear (out : Keyed) : List Attendee → Type 0 where
   clear_end : Clear out []
   clear_more : (a : Attendee) (l : List Attendee) → Without out (folded a) → Clear out l → Clear out (a ∷ l)
 
-pub entry_none_head : (key : Text) (a : Attendee) (l : List Attendee) → entry key (a ∷ l) ≡ none → (same_text (folded a) key ≡ false) × (entry key l ≡ none)
+pub entry_none_head : (key : Text) (a : Attendee) (l : List Attendee) → entry key (a ∷ l) ≡ None → (same_text (folded a) key ≡ false) × (entry key l ≡ None)
 unfolding entry when◌then◌else◌
 entry_none_head key a l e = go (same_text (folded a) key) refl e
   where
-    go : (c : Bool) → same_text (folded a) key ≡ c → (when c then some a else entry key l) ≡ none → (same_text (folded a) key ≡ false) × (entry key l ≡ none)
-    go true f e = absurd (none-ne-some a (sym e))
+    go : (c : Bool) → same_text (folded a) key ≡ c → (when c then Some a else entry key l) ≡ None → (same_text (folded a) key ≡ false) × (entry key l ≡ None)
+    go true f e = absurd (None-ne-Some a (sym e))
     go false f e = (f, e)
 
 pub turned : (a b : Text) → same_text a b ≡ false → same_text b a ≡ false
@@ -134,17 +135,17 @@ turned a b e = go (same_text b a) refl
     go false f = refl
     go true f = absurd (true≢false (sym (same_self a) ∙ ap (same_text a) (sym (same_true b a f)) ∙ e))
 
-clear_snoc : (out : Keyed) (a : Attendee) (l : List Attendee) → Clear out l → entry (folded a) l ≡ none → Clear (out ++ (key_of out a, a) ∷ []) l
+clear_snoc : (out : Keyed) (a : Attendee) (l : List Attendee) → Clear out l → entry (folded a) l ≡ None → Clear (out ++ (key_of out a, a) ∷ []) l
 clear_snoc out a [] clear_end e = clear_end
 clear_snoc out a (x ∷ l) (clear_more x' l' w c) e =
     let n = entry_none_head (folded a) x l e in
     clear_more x l (without_snoc out (key_of out a, a) (folded x) w (ap (λ (y : Text). same_text y (folded x)) (key_named out a) ∙ turned (folded x) (folded a) n.0))
     (clear_snoc out a l c n.1)
 
-pub is_none : (a : Option Attendee) → T (not (is_some a)) → a ≡ none
+pub is_none : (a : Option Attendee) → T (not (is_some a)) → a ≡ None
 unfolding is_some
-is_none none t = refl
-is_none (some x) t = absurd t
+is_none None t = refl
+is_none (Some x) t = absurd t
 
 firsts_after : (out : Keyed) (l : List Attendee) → Firsts (keys out) → Clear out l → T (apart l) → Firsts (keys (keyed_after out l))
 unfolding keyed_after apart map
@@ -171,20 +172,20 @@ firsts_order o t p q = firsts_append (keys (keyed t)) _ (firsts_keyed t q) (firs
 -- ---- an entry is found by its own folded address
 
 pub data Called (key : Text) : Option Attendee → Type 0 where
-  nobody : Called key none
-  someone : (a : Attendee) → folded a ≡ key → Called key (some a)
+  nobody : Called key None
+  someone : (a : Attendee) → folded a ≡ key → Called key (Some a)
 
 called_snoc : (out : Keyed) (a : Attendee) (k : Key) → Called k.address (find out k) → Called k.address (find (out ++ (key_of out a, a) ∷ []) k)
 unfolding when◌then◌else◌
 called_snoc out a k c = go (find out k) refl c
   where
-    here : (b : Bool) → same_key (key_of out a) k ≡ b → Called k.address (when b then some a else none)
+    here : (b : Bool) → same_key (key_of out a) k ≡ b → Called k.address (when b then Some a else None)
     here true e = someone a (sym (key_named out a) ∙ ap (λ (k : Key). k.address) (same_key_is (key_of out a) k e))
     here false e = nobody
 
     go : (f : Option Attendee) → find out k ≡ f → Called k.address f → Called k.address (find (out ++ (key_of out a, a) ∷ []) k)
-    go none e nobody = subst (Called k.address) (sym (find_snoc out (key_of out a, a) k e)) (here (same_key (key_of out a) k) refl)
-    go (some x) e c = subst (Called k.address) (sym (find_keeps out _ k x e)) c
+    go None e nobody = subst (Called k.address) (sym (find_snoc out (key_of out a, a) k e)) (here (same_key (key_of out a) k) refl)
+    go (Some x) e c = subst (Called k.address) (sym (find_keeps out _ k x e)) c
 
 called_after : (out : Keyed) (l : List Attendee) → ((k : Key) → Called k.address (find out k)) → (k : Key) → Called k.address (find (keyed_after out l) k)
 unfolding keyed_after

@@ -1,7 +1,7 @@
 -- Who is named can force the unit: an owner whose write lands first, an attendee what it may change, and the second what the first leaves. Assumes nothing.
+use Rattle.std.specs.Prelude.{Some, None}
 use mathlib.Core.Path.{◌≡◌, refl, sym, ap, ◌∙◌}
 use mathlib.Core.Bool.{true, false, not, ◌||◌, true≢false}
-use mathlib.Core.Option.{none, some}
 use lib.Dec.{T}
 use Rattle.model.specs.Event.{Text, NormalizedEvent, ProviderEvent}
 use Rattle.model.specs.Parts.{Role}
@@ -76,8 +76,8 @@ first_owner_forces e second u ev v given n = record {
 
 there_or : (v : Value) → T (is_some v || false) → T (is_some v)
 unfolding is_some
-there_or none t = t
-there_or (some x) t = tt
+there_or None t = t
+there_or (Some x) t = tt
 
 attendee_writes : (e : ProviderEvent) (address : Text) (w : NormalizedEvent) (u : Unit) (v : Value) → Event e → Update w
     → attendee_may (Role.Attendee address) e.fields u ≡ true → value u w ≡ v → T (is_some v || not (is_reply u))

@@ -1,10 +1,10 @@
 -- A frame's entries by list, where no list has an address twice: the event's, then those that are new in each party's. And how many bytes name the
 -- parties of its units. Assumes nothing.
+use Rattle.std.specs.Prelude.{Some, None}
 use Prim.Native.Nat.{◌≤◌}
 use native.Mathlib.Omega.{arith}
 use mathlib.Core.Path.{◌≡◌, refl, sym, ap, ◌∙◌}
 use mathlib.Core.List.{List, [], ◌∷◌, ◌++◌, append_assoc, append-nil}
-use mathlib.Core.Option.{none, some}
 use mathlib.Core.Bool.{Bool, true, false, not, ◌&&◌, ◌||◌}
 use lib.ListN.{length}
 use lib.Dec.{T}
@@ -36,7 +36,7 @@ any_append p [] b = refl
 any_append p (x ∷ a) b = elim (p x) as (λ c. (c || any p (a ++ b)) ≡ ((c || any p a) || any p b)) [ true ↦ refl | false ↦ any_append p a b ]
 
 -- entries with other addresses than k's are new whether or not k is among the names
-other_new : (keys : List Text) (k : Text) (l : List Attendee) → entry k l ≡ none
+other_new : (keys : List Text) (k : Text) (l : List Attendee) → entry k l ≡ None
     → filter (λ a. not (any (same_text (folded a)) (keys ++ k ∷ []))) l ≡ filter (λ a. not (any (same_text (folded a)) keys)) l
 unfolding filter any
 other_new keys k [] e = refl
@@ -56,7 +56,7 @@ add_apart keys (a ∷ l) t = go (any (same_text (folded a)) keys) (λ ks. add_ap
     behind : T (apart l)
     behind = and_right (not (is_some (entry (folded a) l))) (apart l) t
 
-    alone : entry (folded a) l ≡ none
+    alone : entry (folded a) l ≡ None
     alone = is_none (entry (folded a) l) (and_left (not (is_some (entry (folded a) l))) (apart l) t)
 
     go : (c : Bool) → ((ks : List Text) → T (apart l) → add_new ks l ≡ ks ++ map folded (filter (λ a. not (any (same_text (folded a)) ks)) l))
@@ -93,7 +93,7 @@ among_new has k n (a ∷ l) = go (same_text (folded a) k) refl (among_new has k 
     old false e = ap (λ (d : Bool). d || any (same_text k) (map folded new)) e
 
     go : (c : Bool) → same_text (folded a) k ≡ c → any (same_text k) (map folded new) ≡ is_some (entry k l)
-        → any (same_text k) (map folded (when not (has (folded a)) then a ∷ new else new)) ≡ is_some (when c then some a else entry k l)
+        → any (same_text k) (map folded (when not (has (folded a)) then a ∷ new else new)) ≡ is_some (when c then Some a else entry k l)
     go true e ih = ap (λ (c : Bool). any (same_text k) (map folded (when not c then a ∷ new else new))) (ap has (same_true (folded a) k e) ∙ n)
         ∙ ap (λ (c : Bool). c || any (same_text k) (map folded new)) (same_turned k (folded a) ∙ e)
     go false e ih = old (has (folded a)) (same_turned k (folded a) ∙ e) ∙ ih

@@ -1,7 +1,7 @@
 -- One entry merged: where a unit of it moves, and what an owner or an attendee can write of it. Assumes nothing.
+use Rattle.std.specs.Prelude.{Option, Some, None}
 use mathlib.Core.Path.{◌≡◌, refl, sym, ap, ◌∙◌, subst}
 use mathlib.Core.List.{List, [], ◌∷◌}
-use mathlib.Core.Option.{Option, none, some}
 use mathlib.Core.Bool.{Bool, true, false, ◌&&◌, true≢false}
 use lib.Dec.{T}
 use Rattle.format.specs.Format.{All, option}
@@ -24,7 +24,7 @@ use Rattle.clerks_model.proofs.Entries.{entry_merged}
 entry_fits : (key : Text) (l : List Attendee) → All attendee_f.Ok l → (option attendee_f).Ok (entry key l)
 unfolding entry when◌then◌else◌
 entry_fits key [] h = none_ok attendee_f
-entry_fits key (a ∷ l) h = elim (same_text (folded a) key) as (λ c. (option attendee_f).Ok (when c then some a else entry key l))
+entry_fits key (a ∷ l) h = elim (same_text (folded a) key) as (λ c. (option attendee_f).Ok (when c then Some a else entry key l))
     [ true ↦ some_ok attendee_f a h.0 | false ↦ entry_fits key l h.1 ]
 
 pub entry_ok : (key : Text) (w : NormalizedEvent) → fields_f.Ok w → (option attendee_f).Ok (entry key w.attendees)
@@ -33,16 +33,16 @@ entry_ok key w h = entry_fits key w.attendees (side_of w h).attendees
 -- ---- where a unit of it moves, the base stood
 
 -- the writer's own: the rest of it stays
-pub standing_rest : (b o t : Attendee) → rest_of (own_standing b o t).value ≡ rest_of (some t)
+pub standing_rest : (b o t : Attendee) → rest_of (own_standing b o t).value ≡ rest_of (Some t)
 unfolding own_standing rest_of rest with_participation
 standing_rest b o t =
-    rw (part_theirs attendee_f (λ r. FieldValue.Attendee (some r)) Field.Attendees (some t.address) (rest b) (rest o) (rest t)).value refl
+    rw (part_theirs attendee_f (λ r. FieldValue.Attendee (Some r)) Field.Attendees (Some t.address) (rest b) (rest o) (rest t)).value refl
 
 -- and its reply moves only where the base stood
-standing_reply : (b o t : Attendee) → (reply_of (own_standing b o t).value ≡ reply_of (some t) → ⊥) → reply_of (some t) ≡ reply_of (some b)
+standing_reply : (b o t : Attendee) → (reply_of (own_standing b o t).value ≡ reply_of (Some t) → ⊥) → reply_of (Some t) ≡ reply_of (Some b)
 unfolding own_standing reply_of with_participation
-standing_reply b o t n = ap some (part_moved participation_f b.participation o.participation t.participation _
-    (part_is participation_f _ _ _ true b.participation o.participation t.participation) (λ e. n (ap some (ap participation_f.enc (reply_part b o t) ∙ e))))
+standing_reply b o t n = ap Some (part_moved participation_f b.participation o.participation t.participation _
+    (part_is participation_f _ _ _ true b.participation o.participation t.participation) (λ e. n (ap Some (ap participation_f.enc (reply_part b o t) ∙ e))))
 
 whole_moved : {X : Type 0} (g : Option Attendee → X) (b o t v : Option Attendee) → (option attendee_f).Ok b → (option attendee_f).Ok t
     → Part (option attendee_f) b o t v → (g v ≡ g t → ⊥) → g t ≡ g b
@@ -50,7 +50,7 @@ whole_moved g b o t v okb okt stays n = absurd (n refl)
 whole_moved g b o t v okb okt (moves e) n = ap g (enc_injective (option_law attendee_f_law) t b okt okb (same_bytes (option attendee_f) t b e))
 
 -- a unit g of an entry that moves in the writer's own entry only where the base stood
-module _ (g : Option Attendee → Value) (standing : (b o t : Attendee) → (g (own_standing b o t).value ≡ g (some t) → ⊥) → g (some t) ≡ g (some b)) where
+module _ (g : Option Attendee → Value) (standing : (b o t : Attendee) → (g (own_standing b o t).value ≡ g (Some t) → ⊥) → g (Some t) ≡ g (Some b)) where
   entry_moved : (role : Role) (key : Text) (b o t : Option Attendee) → (option attendee_f).Ok b → (option attendee_f).Ok t
       → (g (entry_merged role key b o t) ≡ g t → ⊥) → g t ≡ g b
   unfolding entry_merged when◌then◌else◌ whole_entry own_entry own_removed
@@ -60,10 +60,10 @@ module _ (g : Option Attendee → Value) (standing : (b o t : Attendee) → (g (
       whole owned b o t p q n = whole_moved g b o t _ p q (part_is (option attendee_f) FieldValue.Attendee Field.Attendees _ owned b o t) n
 
       own : (b o t : Option Attendee) → (option attendee_f).Ok b → (option attendee_f).Ok t → (g (own_entry b o t).value ≡ g t → ⊥) → g t ≡ g b
-      own none o t p q n = whole false none o t p q n
-      own (some b) none t p q n = whole false (some b) none t p q n
-      own (some b) (some o) none p q n = absurd (n refl)
-      own (some b) (some o) (some t) p q n = standing b o t n
+      own None o t p q n = whole false None o t p q n
+      own (Some b) None t p q n = whole false (Some b) None t p q n
+      own (Some b) (Some o) None p q n = absurd (n refl)
+      own (Some b) (Some o) (Some t) p q n = standing b o t n
 
       go : (c : Bool) → (g (when c then own_entry b o t else whole_entry (is_owner role) b o t).value ≡ g t → ⊥) → g t ≡ g b
       go true n = own b o t p q n
@@ -111,9 +111,9 @@ own_writes address key b o v w e s =
     ap (λ (c : Bool). reply_of (when c then own_entry b o b else whole_entry (is_owner (Role.Attendee address)) b o b).value) w.own ∙ go b w.there o e
   where
     go : (b : Option Attendee) → T (is_some b) → (o : Option Attendee) → reply_of o ≡ v → reply_of (own_entry b o b).value ≡ v
-    go none t o e = absurd t
-    go (some b) t none e = absurd (subst (λ (v : Value). T (is_some v)) (sym e) s)
-    go (some b) t (some o) e = ap some (reply_owned b o) ∙ e
+    go None t o e = absurd t
+    go (Some b) t None e = absurd (subst (λ (v : Value). T (is_some v)) (sym e) s)
+    go (Some b) t (Some o) e = ap Some (reply_owned b o) ∙ e
 
 whole_kept : (b o t : Option Attendee) → (whole_entry false b o t).value ≡ t
 unfolding whole_entry
@@ -126,8 +126,8 @@ unfolding entry_merged is_own when◌then◌else◌ is_owner own_entry is_some
 entry_kept address key b o h = go (same_text (to_ascii_lowercase address) key) refl h
   where
     own : (b : Option Attendee) → is_some b ≡ false → (own_entry b o b).value ≡ b
-    own none e = whole_kept none o none
-    own (some b) e = absurd (true≢false e)
+    own None e = whole_kept None o None
+    own (Some b) e = absurd (true≢false e)
 
     go : (c : Bool) → same_text (to_ascii_lowercase address) key ≡ c → (c && is_some b) ≡ false
         → (when same_text (to_ascii_lowercase address) key then own_entry b o b else whole_entry false b o b).value ≡ b
@@ -141,10 +141,10 @@ attendee_rest address key b o t = elim (is_own (Role.Attendee address) (first_ke
     [ true ↦ own b o t | false ↦ ap rest_of (whole_kept b o t) ]
   where
     own : (b o t : Option Attendee) → rest_of (own_entry b o t).value ≡ rest_of t
-    own none o t = ap rest_of (whole_kept none o t)
-    own (some b) none t = ap rest_of (whole_kept (some b) none t)
-    own (some b) (some o) none = refl
-    own (some b) (some o) (some t) = standing_rest b o t
+    own None o t = ap rest_of (whole_kept None o t)
+    own (Some b) None t = ap rest_of (whole_kept (Some b) None t)
+    own (Some b) (Some o) None = refl
+    own (Some b) (Some o) (Some t) = standing_rest b o t
 
 -- ---- where ours is the base, theirs stays
 
@@ -161,10 +161,10 @@ entry_echo role key b t = elim (is_own role (first_key key)) as (λ c. (when c t
     back a = refl
 
     own : (b t : Option Attendee) → (own_entry b b t).value ≡ t
-    own none t = whole_echo false none t
-    own (some b) none = refl
-    own (some b) (some t) =
+    own None t = whole_echo false None t
+    own (Some b) None = refl
+    own (Some b) (Some t) =
         rw (
-          (part_theirs attendee_f (λ r. FieldValue.Attendee (some r)) Field.Attendees (some t.address) (rest b) (rest b) (rest t)).value,
+          (part_theirs attendee_f (λ r. FieldValue.Attendee (Some r)) Field.Attendees (Some t.address) (rest b) (rest b) (rest t)).value,
           reply_part b b t ∙ part_echo participation_f _ _ _ true b.participation t.participation,
-        ) (ap some (back t))
+        ) (ap Some (back t))

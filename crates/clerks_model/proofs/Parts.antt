@@ -1,6 +1,6 @@
 -- A part of a merge is theirs, or ours where theirs is the base. Assumes nothing.
+use Rattle.std.specs.Prelude.{Option, Some, None}
 use mathlib.Core.Path.{◌≡◌, refl, sym, ap, ◌∙◌}
-use mathlib.Core.Option.{Option, none, some}
 use mathlib.Core.Bool.{Bool, true, false, not, ◌||◌, true≢false}
 use Rattle.format.specs.Format.{Format}
 use Rattle.model.specs.Event.{Text, Attendee, Participation}
@@ -74,7 +74,7 @@ module _ {A : Type 0} (f : Format A) where
 
 -- the reply of one's own entry is merged as a part that one owns. What is reported of it is not said
 pub reply_part : (b o t : Attendee)
-    → (own_reply b o t).value ≡ (merge_part participation_f (λ p. FieldValue.Attendee none) Field.Attendees none true b.participation o.participation t.participation).value
+    → (own_reply b o t).value ≡ (merge_part participation_f (λ p. FieldValue.Attendee None) Field.Attendees None true b.participation o.participation t.participation).value
 unfolding own_reply merge_part unreported conflicting refusing
 reply_part b o t = go (verdict participation_f b.participation o.participation t.participation true)
   where
@@ -82,15 +82,15 @@ reply_part b o t = go (verdict participation_f b.participation o.participation t
         → (elim v as (λ v. Merged Participation) [
           | Verdict.Theirs ↦ unreported t.participation
           | Verdict.Ours ↦ unreported o.participation
-          | Verdict.Conflict ↦ conflicting Field.Attendees (some t.address)
-              (FieldValue.Attendee (some b)) (FieldValue.Attendee (some o)) (FieldValue.Attendee (some t)) t.participation
+          | Verdict.Conflict ↦ conflicting Field.Attendees (Some t.address)
+              (FieldValue.Attendee (Some b)) (FieldValue.Attendee (Some o)) (FieldValue.Attendee (Some t)) t.participation
           | Verdict.Refused ↦ unreported t.participation
         ]).value
         ≡ (elim v as (λ v. Merged Participation) [
           | Verdict.Theirs ↦ unreported t.participation
           | Verdict.Ours ↦ unreported o.participation
-          | Verdict.Conflict ↦ conflicting Field.Attendees none (FieldValue.Attendee none) (FieldValue.Attendee none) (FieldValue.Attendee none) t.participation
-          | Verdict.Refused ↦ refusing Field.Attendees none t.participation
+          | Verdict.Conflict ↦ conflicting Field.Attendees None (FieldValue.Attendee None) (FieldValue.Attendee None) (FieldValue.Attendee None) t.participation
+          | Verdict.Refused ↦ refusing Field.Attendees None t.participation
         ]).value
     go Verdict.Theirs = refl
     go Verdict.Ours = refl

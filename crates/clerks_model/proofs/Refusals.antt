@@ -1,10 +1,10 @@
 -- The refusals: their order, and their numbers. Assumes nothing.
+use Rattle.std.specs.Prelude.{Option, Some, None}
 use Prim.Native.Nat.{◌<◌}
 use native.Mathlib.Omega.{arith}
 use mathlib.Core.Path.{◌≡◌, refl, ap, ◌∙◌}
 use mathlib.Core.Logic.{◌⊎◌, inl, inr}
 use mathlib.Core.Bool.{Bool, true, false, not, ◌&&◌}
-use mathlib.Core.Option.{Option, none, some}
 use Rattle.format.specs.Format.{whole_of}
 use Rattle.model.specs.Maps.{when◌then◌else◌}
 use Rattle.model.specs.Formats.{Bytes}
@@ -16,7 +16,7 @@ use Rattle.clerks_model.specs.Claims.{RefusedInOrder}
 -- ---- their order
 
 module _ (frame : Bytes) where
-  judged_is : (c : Clerks) → whole_of clerks_f frame ≡ some c → two_clerks frame ≡ judged c
+  judged_is : (c : Clerks) → whole_of clerks_f frame ≡ Some c → two_clerks frame ≡ judged c
   unfolding two_clerks answered
   judged_is c h = ap answered h
 
@@ -33,7 +33,7 @@ module _ (frame : Bytes) where
   unfolding judged when◌then◌else◌
   twice_is c e = rw e
 
-  no_frame_is : whole_of clerks_f frame ≡ none → two_clerks frame ≡ Answer.Refused no_frame
+  no_frame_is : whole_of clerks_f frame ≡ None → two_clerks frame ≡ Answer.Refused no_frame
   unfolding two_clerks answered
   no_frame_is h = ap answered h
 
@@ -62,8 +62,8 @@ judged_coded c = go (all_apart c) (both_accepted c) _ _
 
 answered_coded : (o : Option Clerks) → Coded (answered o)
 unfolding answered
-answered_coded none = (omega arith, omega arith)
-answered_coded (some c) = judged_coded c
+answered_coded None = (omega arith, omega arith)
+answered_coded (Some c) = judged_coded c
 
 pub coded : (frame : Bytes) → Coded (two_clerks frame)
 unfolding two_clerks

@@ -1,6 +1,7 @@
 -- The second brings in changes only where the first left the base standing, so what the first wrote unlike the base stands in the end. Assumes nothing.
+use Rattle.std.specs.Prelude.{Some, None}
+use Rattle.format.proofs.Options.{None-ne-Some, Some_inj}
 use mathlib.Core.Path.{◌≡◌, refl, sym, ap, ◌∙◌}
-use mathlib.Core.Option.{none, some, none-ne-some, some_inj}
 use mathlib.Core.Bool.{Bool, true, false, true≢false}
 use lib.Dec.{leb→le, T}
 use Rattle.format.specs.Format.{option}
@@ -51,14 +52,14 @@ second_only_where_base_stood e p q u ev wp wq acc n = go u (kind_of u) n
 
 -- values are compared byte by byte, so what can't differ is the same
 stable : (a b : Value) → ((a ≡ b → ⊥) → ⊥) → a ≡ b
-stable none none n = refl
-stable none (some b) n = absurd (n (λ e. none-ne-some b e))
-stable (some a) none n = absurd (n (λ e. none-ne-some a (sym e)))
-stable (some a) (some b) n = go (same_text a b) refl
+stable None None n = refl
+stable None (Some b) n = absurd (n (λ e. None-ne-Some b e))
+stable (Some a) None n = absurd (n (λ e. None-ne-Some a (sym e)))
+stable (Some a) (Some b) n = go (same_text a b) refl
   where
-    go : (c : Bool) → same_text a b ≡ c → some a ≡ some b
-    go true e = ap some (same_true a b e)
-    go false e = absurd (n (λ h. true≢false (sym (same_self a) ∙ ap (same_text a) (some_inj.0 h) ∙ e)))
+    go : (c : Bool) → same_text a b ≡ c → Some a ≡ Some b
+    go true e = ap Some (same_true a b e)
+    go false e = absurd (n (λ h. true≢false (sym (same_self a) ∙ ap (same_text a) (Some_inj.0 h) ∙ e)))
 
 pub stands_after : (e : ProviderEvent) (p q : Party) (u : Unit) (v : Value) → Event e → Update p.wanted → Update q.wanted → T (accepted e p q)
     → value u (after_first e p).fields ≡ v → (v ≡ value u e.fields → ⊥) → value u (after_both e p q).fields ≡ v

@@ -1,7 +1,8 @@
 -- Who is not named can't force the unit: an update of the other's leaves it unlike a given value. Assumes nothing.
+use Rattle.std.specs.Prelude.{Option, Some, None}
+use Rattle.format.proofs.Options.{None-ne-Some, Some_inj}
 use mathlib.Core.Path.{◌≡◌, refl, sym, ap, ◌∙◌, subst}
 use mathlib.Core.List.{List, [], ◌∷◌}
-use mathlib.Core.Option.{Option, none, some, none-ne-some, some_inj}
 use mathlib.Core.Bool.{Bool, true, false, not, ◌&&◌, true≢false}
 use lib.Dec.{T}
 use Rattle.format.specs.Format.{option, via, ◌⊗◌, below}
@@ -123,13 +124,13 @@ second_cannot e address mine u ev p h can = go (can x.v x.given x.differs)
 
 -- ---- the reply of the first, an attendee, keeps the rest of its own entry from an owner who writes second
 
-entry_named : (key : Text) (l : List Attendee) (a : Attendee) → entry key l ≡ some a → folded a ≡ key
+entry_named : (key : Text) (l : List Attendee) (a : Attendee) → entry key l ≡ Some a → folded a ≡ key
 unfolding entry when◌then◌else◌
-entry_named key [] a e = absurd (none-ne-some a e)
+entry_named key [] a e = absurd (None-ne-Some a e)
 entry_named key (x ∷ l) a e = go (same_text (folded x) key) refl (entry_named key l a) e
   where
-    go : (c : Bool) → same_text (folded x) key ≡ c → (entry key l ≡ some a → folded a ≡ key) → (when c then some x else entry key l) ≡ some a → folded a ≡ key
-    go true f ih e = ap folded (sym (some_inj.0 e)) ∙ same_true (folded x) key f
+    go : (c : Bool) → same_text (folded x) key ≡ c → (entry key l ≡ Some a → folded a ≡ key) → (when c then Some x else entry key l) ≡ Some a → folded a ≡ key
+    go true f ih e = ap folded (sym (Some_inj.0 e)) ∙ same_true (folded x) key f
     go false f ih e = ih e
 
 another : Participation → Participation
@@ -141,11 +142,11 @@ another Participation.Delegated = Participation.NeedsAction
 
 is_another : (p : Participation) → participation_f.enc (another p) ≡ participation_f.enc p → ⊥
 unfolding another participation_f via below same_text by_name by
-is_another Participation.NeedsAction e = unlike_bytes _ _ refl (ap some e)
-is_another Participation.Accepted e = unlike_bytes _ _ refl (ap some e)
-is_another Participation.Declined e = unlike_bytes _ _ refl (ap some e)
-is_another Participation.Tentative e = unlike_bytes _ _ refl (ap some e)
-is_another Participation.Delegated e = unlike_bytes _ _ refl (ap some e)
+is_another Participation.NeedsAction e = unlike_bytes _ _ refl (ap Some e)
+is_another Participation.Accepted e = unlike_bytes _ _ refl (ap Some e)
+is_another Participation.Declined e = unlike_bytes _ _ refl (ap Some e)
+is_another Participation.Tentative e = unlike_bytes _ _ refl (ap Some e)
+is_another Participation.Delegated e = unlike_bytes _ _ refl (ap Some e)
 
 replied_ok : (p : Participation) (a : Attendee) → attendee_f.Ok a → attendee_f.Ok (with_participation p a)
 unfolding with_participation attendee_f via ◌⊗◌
@@ -160,7 +161,7 @@ as_wanted e w ev up k t h s = subst (λ (v : Option Attendee). T (is_some v))
 
 -- both have the entry: the first gives another reply
 module _ (e : ProviderEvent) (address key : Text) (ev : Event e) (own : same_text (to_ascii_lowercase address) key ≡ true) (w : NormalizedEvent) (up : Update w)
-    (b o : Attendee) (is_b : entry key e.fields.attendees ≡ some b) (is-o : entry key w.attendees ≡ some o) where
+    (b o : Attendee) (is_b : entry key e.fields.attendees ≡ Some b) (is-o : entry key w.attendees ≡ Some o) where
   replied : Attendee
   replied = with_participation (another b.participation) b
 
@@ -185,7 +186,7 @@ module _ (e : ProviderEvent) (address key : Text) (ev : Event e) (own : same_tex
   unfolding answered
   answered_few = attendee_few e.fields reply e address (event_is_few e ev)
 
-  reply_entry : entry key reply.attendees ≡ some replied
+  reply_entry : entry key reply.attendees ≡ Some replied
   unfolding reply plain replied folded with_participation
   reply_entry = ap (λ (k : Text). entry k (replied ∷ [])) (sym (entry_named key e.fields.attendees b is_b)) ∙ alone b replied refl
 
@@ -196,32 +197,32 @@ module _ (e : ProviderEvent) (address key : Text) (ev : Event e) (own : same_tex
   unfolding t answered entry_merged is_own own_entry when◌then◌else◌
   t_is = merge_entry e.fields reply e (Role.Attendee address) key reply_update.apart_addresses ev.apart_addresses
       ∙ ap (λ (x : Option Attendee). entry_merged (Role.Attendee address) key x (entry key reply.attendees) x) is_b
-      ∙ ap (λ (y : Option Attendee). entry_merged (Role.Attendee address) key (some b) y (some b)) reply_entry
-      ∙ ap (λ (c : Bool). (when c then own_entry (some b) (some replied) (some b) else whole_entry (is_owner (Role.Attendee address)) (some b) (some replied) (some b)).value) own
+      ∙ ap (λ (y : Option Attendee). entry_merged (Role.Attendee address) key (Some b) y (Some b)) reply_entry
+      ∙ ap (λ (c : Bool). (when c then own_entry (Some b) (Some replied) (Some b) else whole_entry (is_owner (Role.Attendee address)) (Some b) (Some replied) (Some b)).value) own
 
   t_ok : (option attendee_f).Ok t
   unfolding own_standing rest
   t_ok = subst (λ (v : Option Attendee). (option attendee_f).Ok v)
-      (sym (t_is ∙ ap (λ (x : Attendee). some (with_participation (own_reply b replied b).value x))
-      (part_theirs attendee_f (λ r. FieldValue.Attendee (some r)) Field.Attendees (some b.address) (rest b) (rest replied) (rest b)).value))
+      (sym (t_is ∙ ap (λ (x : Attendee). Some (with_participation (own_reply b replied b).value x))
+      (part_theirs attendee_f (λ r. FieldValue.Attendee (Some r)) Field.Attendees (Some b.address) (rest b) (rest replied) (rest b)).value))
       (some_ok attendee_f _ (replied_ok _ _ (replied_ok _ b ok_b)))
 
   -- its reply is unlike the base's
-  t_differs : t ≡ some b → ⊥
+  t_differs : t ≡ Some b → ⊥
   unfolding own_standing reply_of with_participation replied
-  t_differs h = is_another b.participation (some_inj.0 (sym (ap some (reply_owned b replied)) ∙ ap reply_of (sym t_is ∙ h)))
+  t_differs h = is_another b.participation (Some_inj.0 (sym (ap Some (reply_owned b replied)) ∙ ap reply_of (sym t_is ∙ h)))
 
   -- so the whole of it stands in the owner's merge
-  t_stands : (v : Option Attendee) → Part (option attendee_f) (some b) (some o) t v → v ≡ t
+  t_stands : (v : Option Attendee) → Part (option attendee_f) (Some b) (Some o) t v → v ≡ t
   t_stands v stays = refl
-  t_stands v (moves h) = absurd (t_differs (enc_injective (option_law attendee_f_law) t (some b) t_ok (some_ok attendee_f b ok_b) (same_bytes (option attendee_f) t (some b) h)))
+  t_stands v (moves h) = absurd (t_differs (enc_injective (option_law attendee_f_law) t (Some b) t_ok (some_ok attendee_f b ok_b) (same_bytes (option attendee_f) t (Some b) h)))
 
   rest_stands : rest_of (entry key (merge e.fields w answered Role.Owner).event.fields.attendees) ≡ rest_of (entry key e.fields.attendees)
   unfolding entry_merged is_own is_owner when◌then◌else◌ whole_entry t
   rest_stands = ap rest_of (merge_entry e.fields w answered Role.Owner key up.apart_addresses answered_apart
       ∙ ap (λ (x : Option Attendee). entry_merged Role.Owner key x (entry key w.attendees) t) is_b
-      ∙ ap (λ (y : Option Attendee). entry_merged Role.Owner key (some b) y t) is-o
-      ∙ t_stands _ (part_is (option attendee_f) FieldValue.Attendee Field.Attendees _ true (some b) (some o) t))
+      ∙ ap (λ (y : Option Attendee). entry_merged Role.Owner key (Some b) y t) is-o
+      ∙ t_stands _ (part_is (option attendee_f) FieldValue.Attendee Field.Attendees _ true (Some b) (Some o) t))
       ∙ ap rest_of t_is ∙ standing_rest b replied b ∙ ap rest_of (sym is_b)
 
   -- and the owner's list has only entries that it wants
@@ -239,7 +240,7 @@ module _ (e : ProviderEvent) (address key : Text) (ev : Event e) (own : same_tex
   wanted_few : T (few (merge e.fields w answered Role.Owner).event)
   wanted_few = owner_few e.fields w answered up answered_apart wanted_only
 
-no_value : {A : Type 0} (v : Option A) → T (is_some v) → v ≡ none → ⊥
+no_value : {A : Type 0} (v : Option A) → T (is_some v) → v ≡ None → ⊥
 unfolding is_some
 no_value {A} v t e = subst (λ (v : Option A). T (is_some v)) e t
 
@@ -261,14 +262,14 @@ saved_cannot e address key ev p h can = go (can x.v x.given x.differs)
         w = f.wanted
 
         pick : (y : Option Attendee) → entry key w.attendees ≡ y → (b : Option Attendee) → entry key e.fields.attendees ≡ b → ⊥
-        pick y is_y none is_b = no_value (entry key e.fields.attendees) own.there is_b
+        pick y is_y None is_b = no_value (entry key e.fields.attendees) own.there is_b
         -- the owner wants no such entry: then it has none where the first wants the base
-        pick none is_y (some b) is_b = no_value x.v x.there
+        pick None is_y (Some b) is_b = no_value x.v x.there
             (sym (f.forced e.fields (base_update e ev) (and_both (few (echoed e address ev)) _ (echoed_few e address ev)
             (owner_few e.fields w (echoed e address ev) f.update (echoed_apart e address ev)
             (λ k. as_wanted e w ev f.update k (entry k (echoed e address ev).fields.attendees) (echoed_entry e address ev k)))))
             ∙ ap rest_of (owner_merged e w (echoed e address ev) ev f.update (echoed_apart e address ev) key (echoed_entry e address ev key) ∙ is_y))
-        pick (some o) is_y (some b) is_b = x.differs
+        pick (Some o) is_y (Some b) is_b = x.differs
             (sym (f.forced (reply e address key ev own.own w f.update b o is_b is_y) (reply_update e address key ev own.own w f.update b o is_b is_y)
             (and_both (few (answered e address key ev own.own w f.update b o is_b is_y)) _
             (answered_few e address key ev own.own w f.update b o is_b is_y) (wanted_few e address key ev own.own w f.update b o is_b is_y)))

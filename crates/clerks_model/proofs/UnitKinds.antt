@@ -1,6 +1,7 @@
 -- The kinds of units: a field, which is one part of a merge; the rest of an entry; and its reply. Assumes nothing.
+use Rattle.std.specs.Prelude.{Some, None}
+use Rattle.format.proofs.Options.{Some_inj}
 use mathlib.Core.Path.{◌≡◌, refl, sym, ap, ◌∙◌}
-use mathlib.Core.Option.{none, some, some_inj}
 use mathlib.Core.Bool.{Bool, true, false}
 use Rattle.format.specs.Format.{Format, option}
 use Rattle.model.specs.Event.{Text, NormalizedEvent, ProviderEvent}
@@ -22,9 +23,9 @@ pub record FieldOf (u : Unit) : Type 1 where
   pub owned : Role → Bool
   pub owner_owns : owned Role.Owner ≡ true
   pub attendee_owns : (address : Text) → owned (Role.Attendee address) ≡ is_reminders u
-  valued : (e : NormalizedEvent) → value u e ≡ some (format.enc (get e))
+  valued : (e : NormalizedEvent) → value u e ≡ Some (format.enc (get e))
   merged : (b o : NormalizedEvent) (t : ProviderEvent) (role : Role)
-      → get (merge b o t role).event.fields ≡ (merge_part format of name none (owned role) (get b) (get o) (get t.fields)).value
+      → get (merge b o t role).event.fields ≡ (merge_part format of name None (owned role) (get b) (get o) (get t.fields)).value
   pub by_field : {B : Type 0} (field : B) (rest reply : Text → B) → by_kind field rest reply u ≡ field
 
 pub data Kind : Unit → Type 1 where
@@ -171,34 +172,34 @@ kind_of Unit.Reminders = a_field Unit.Reminders (record {
 
 module _ {u : Unit} (f : FieldOf u) (b o : NormalizedEvent) (t : ProviderEvent) (role : Role) where
   abbrev part : f.A
-  part = (merge_part f.format f.of f.name none (f.owned role) (f.get b) (f.get o) (f.get t.fields)).value
+  part = (merge_part f.format f.of f.name None (f.owned role) (f.get b) (f.get o) (f.get t.fields)).value
 
-  field_is : value u (merge b o t role).event.fields ≡ some (f.format.enc part)
-  field_is = f.valued (merge b o t role).event.fields ∙ ap (λ (x : f.A). some (f.format.enc x)) (f.merged b o t role)
+  field_is : value u (merge b o t role).event.fields ≡ Some (f.format.enc part)
+  field_is = f.valued (merge b o t role).event.fields ∙ ap (λ (x : f.A). Some (f.format.enc x)) (f.merged b o t role)
 
   -- where it is not theirs, theirs is the base's
   pub field_moved : (value u (merge b o t role).event.fields ≡ value u t.fields → ⊥) → value u t.fields ≡ value u b
   field_moved n = f.valued t.fields
-      ∙ ap some (part_moved f.format (f.get b) (f.get o) (f.get t.fields) part (part_is f.format f.of f.name none (f.owned role) (f.get b) (f.get o) (f.get t.fields))
-      (λ h. n (field_is ∙ ap some h ∙ sym (f.valued t.fields))))
+      ∙ ap Some (part_moved f.format (f.get b) (f.get o) (f.get t.fields) part (part_is f.format f.of f.name None (f.owned role) (f.get b) (f.get o) (f.get t.fields))
+      (λ h. n (field_is ∙ ap Some h ∙ sym (f.valued t.fields))))
       ∙ sym (f.valued b)
 
   -- ours, where it is owned and theirs is the base's
   pub field_owned : f.owned role ≡ true → value u t.fields ≡ value u b → value u (merge b o t role).event.fields ≡ value u o
   field_owned h e = field_is
-      ∙ ap some (ap (λ (c : Bool). f.format.enc (merge_part f.format f.of f.name none c (f.get b) (f.get o) (f.get t.fields)).value) h
-      ∙ part_owned f.format f.of f.name none (f.get b) (f.get o) (f.get t.fields) (some_inj.0 (sym (f.valued t.fields) ∙ e ∙ f.valued b)))
+      ∙ ap Some (ap (λ (c : Bool). f.format.enc (merge_part f.format f.of f.name None c (f.get b) (f.get o) (f.get t.fields)).value) h
+      ∙ part_owned f.format f.of f.name None (f.get b) (f.get o) (f.get t.fields) (Some_inj.0 (sym (f.valued t.fields) ∙ e ∙ f.valued b)))
       ∙ sym (f.valued o)
 
   -- theirs, where it is not owned
   pub field_kept : f.owned role ≡ false → value u (merge b o t role).event.fields ≡ value u t.fields
   field_kept h = field_is
-      ∙ ap (λ (c : Bool). some (f.format.enc (merge_part f.format f.of f.name none c (f.get b) (f.get o) (f.get t.fields)).value)) h
-      ∙ ap (λ (x : f.A). some (f.format.enc x)) (part_theirs f.format f.of f.name none (f.get b) (f.get o) (f.get t.fields)).value
+      ∙ ap (λ (c : Bool). Some (f.format.enc (merge_part f.format f.of f.name None c (f.get b) (f.get o) (f.get t.fields)).value)) h
+      ∙ ap (λ (x : f.A). Some (f.format.enc x)) (part_theirs f.format f.of f.name None (f.get b) (f.get o) (f.get t.fields)).value
       ∙ sym (f.valued t.fields)
 
 -- theirs, where ours is the base
 pub field_echo : {u : Unit} (f : FieldOf u) (b : NormalizedEvent) (t : ProviderEvent) (role : Role) → value u (merge b b t role).event.fields ≡ value u t.fields
 field_echo f b t role = field_is f b b t role
-    ∙ ap (λ (x : f.A). some (f.format.enc x)) (part_echo f.format f.of f.name none (f.owned role) (f.get b) (f.get t.fields))
+    ∙ ap (λ (x : f.A). Some (f.format.enc x)) (part_echo f.format f.of f.name None (f.owned role) (f.get b) (f.get t.fields))
     ∙ sym (f.valued t.fields)

@@ -1,8 +1,9 @@
 -- Two updates with unlike values of a unit, so that one is unlike the base. Assumes nothing.
+use Rattle.std.specs.Prelude.{Option, Some, None}
+use Rattle.format.proofs.Options.{None-ne-Some, Some_inj}
 use Prim.Native.Nat.{ℕ, ◌≤◌}
 use mathlib.Core.Path.{◌≡◌, refl, sym, ap, ◌∙◌, subst}
 use mathlib.Core.List.{List, [], ◌∷◌}
-use mathlib.Core.Option.{Option, none, some, none-ne-some, some_inj}
 use mathlib.Core.Bool.{Bool, true, false, not, ◌||◌, true≢false}
 use lib.ListN.{length}
 use lib.Dec.{T, lit<, lit≤}
@@ -25,13 +26,13 @@ use Rattle.clerks_model.specs.Claims.{Proper, of_field, of_rest, of_reply}
 
 unfoldable pub plain : List Attendee → NormalizedEvent
 plain l = record {
-  title = none;
+  title = None;
   times = 0;
-  recurrence = none;
-  organizer = none;
+  recurrence = None;
+  organizer = None;
   attendees = l;
-  location = none;
-  description = none;
+  location = None;
+  description = None;
   status = EventStatus.Confirmed;
   transparency = Transparency.Opaque;
   visibility = Visibility.Default;
@@ -40,13 +41,13 @@ plain l = record {
 
 unlike : NormalizedEvent
 unlike = record {
-  title = some [];
+  title = Some [];
   times = 1;
-  recurrence = some 0;
-  organizer = some (record { address = []; name = none });
+  recurrence = Some 0;
+  organizer = Some (record { address = []; name = None });
   attendees = [];
-  location = some [];
-  description = some 0;
+  location = Some [];
+  description = Some 0;
   status = EventStatus.Tentative;
   transparency = Transparency.Transparent;
   visibility = Visibility.Public;
@@ -65,17 +66,17 @@ unlike_ok : fields_f.Ok unlike
 unfolding unlike fields_f via ◌⊗◌ list status_f transparency_f visibility_f below max_attendees number organizer_f
 unlike_ok = (some_ok short_text [] empty_ok, (lit< tt, (some_ok tag 0 (lit< tt), (some_ok organizer_f _ (empty_ok, none_ok short_text), ((lit≤ tt, tt), (some_ok short_text [] empty_ok, (some_ok tag 0 (lit< tt), (lit< tt, (lit< tt, (lit< tt, lit< tt))))))))))
 
-pub unlike_bytes : (a b : List ℕ) → same_text a b ≡ false → some a ≡ some b → ⊥
-unlike_bytes a b f e = true≢false (sym (same_self a) ∙ ap (same_text a) (some_inj.0 e) ∙ f)
+pub unlike_bytes : (a b : List ℕ) → same_text a b ≡ false → Some a ≡ Some b → ⊥
+unlike_bytes a b f e = true≢false (sym (same_self a) ∙ ap (same_text a) (Some_inj.0 e) ∙ f)
 
 decide : {P : Type 0} (a b : Value) → (a ≡ b → P) → ((a ≡ b → ⊥) → P) → P
-decide none none f g = f refl
-decide none (some b) f g = g (λ e. none-ne-some b e)
-decide (some a) none f g = g (λ e. none-ne-some a (sym e))
-decide {P} (some a) (some b) f g = go (same_text a b) refl
+decide None None f g = f refl
+decide None (Some b) f g = g (λ e. None-ne-Some b e)
+decide (Some a) None f g = g (λ e. None-ne-Some a (sym e))
+decide {P} (Some a) (Some b) f g = go (same_text a b) refl
   where
     go : (c : Bool) → same_text a b ≡ c → P
-    go true e = f (ap some (same_true a b e))
+    go true e = f (ap Some (same_true a b e))
     go false e = g (unlike_bytes a b e)
 
 record Two (u : Unit) : Type 0 where
@@ -136,7 +137,7 @@ optional_ok : (p : Participation) (a : Attendee) → attendee_f.Ok a → attende
 unfolding replaced attendee_f via ◌⊗◌ attendee_role_f below
 optional_ok p a h = (h.0, (h.1.0, (lit< tt, (participation_ok p, h.1.1.1.1))))
 
-pub alone : (a x : Attendee) → folded x ≡ folded a → entry (folded a) (x ∷ []) ≡ some x
+pub alone : (a x : Attendee) → folded x ≡ folded a → entry (folded a) (x ∷ []) ≡ Some x
 unfolding entry when◌then◌else◌
 alone a x e = rw (e, same_self (folded a)) refl
 
@@ -174,9 +175,9 @@ two_rests a h = record {
     named_y : folded y ≡ folded a
     named_y = refl
 
-    differ : some (attendee_f.enc (rest x)) ≡ some (attendee_f.enc (rest y)) → ⊥
+    differ : Some (attendee_f.enc (rest x)) ≡ Some (attendee_f.enc (rest y)) → ⊥
     differ e = true≢false (ap (λ (a : Attendee). is_required a.role)
-        (enc_injective attendee_f_law (rest x) (rest y) (required_ok Participation.NeedsAction a h) (optional_ok Participation.NeedsAction a h) (some_inj.0 e)))
+        (enc_injective attendee_f_law (rest x) (rest y) (required_ok Participation.NeedsAction a h) (optional_ok Participation.NeedsAction a h) (Some_inj.0 e)))
 
 two_replies : (a : Attendee) → attendee_f.Ok a → Two (Unit.Reply (folded a))
 unfolding value plain reply_of is_some same_text by_name by participation_f via below replaced folded

@@ -1,6 +1,5 @@
 -- What the tool answers to a frame: a refusal's number, or a line of bytes for each order of the writes. Assumes nothing.
-use Rattle.std.specs.Prelude.{ℕ, ◌++◌, Bool, not, ◌&&◌}
-use Rattle.std.proofs.Math.Option.{Option, none, some}
+use Rattle.std.specs.Prelude.{ℕ, ◌++◌, Bool, not, ◌&&◌, Option, Some, None}
 use Rattle.format.specs.Format.{whole_of}
 use Rattle.model.specs.Maps.{when◌then◌else◌, map}
 use Rattle.model.specs.Formats.{Bytes, event_f}
@@ -62,8 +61,8 @@ judged c =
     else Answer.Lines (line c (party_one c) (party_two c)) (line c (party_two c) (party_one c)))
 
 unfoldable pub answered : Option Clerks → Answer
-answered none = Answer.Refused no_frame
-answered (some c) = judged c
+answered None = Answer.Refused no_frame
+answered (Some c) = judged c
 
 unfoldable pub two_clerks : Bytes → Answer
 two_clerks frame = answered (whole_of clerks_f frame)

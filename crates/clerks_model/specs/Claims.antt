@@ -1,6 +1,5 @@
 -- What is claimed of two clerks, and proved in proofs/Theorems.antt. Assumes nothing.
-use Rattle.std.specs.Prelude.{◌≡◌, ◌⊎◌, ◌↔◌, true, false, length, T, ◌≤◌}
-use Rattle.std.proofs.Math.Option.{none, some}
+use Rattle.std.specs.Prelude.{◌≡◌, ◌⊎◌, ◌↔◌, true, false, length, T, ◌≤◌, Some, None}
 use Rattle.format.specs.Format.{All, whole_of}
 use Rattle.model.specs.Event.{Attendee, ProviderEvent}
 use Rattle.model.specs.Parts.{Role}
@@ -51,7 +50,7 @@ SecondOnlyWhereBaseStood = (e : ProviderEvent) (p q : Party) (u : Unit) → Even
 
 -- a frame holds what it is exactly the bytes of
 abbrev pub ClerksExact : Type 0
-ClerksExact = (frame : Bytes) (c : Clerks) → (whole_of clerks_f frame ≡ some c) ↔ (clerks_f.Ok c × (frame ≡ clerks_f.enc c))
+ClerksExact = (frame : Bytes) (c : Clerks) → (whole_of clerks_f frame ≡ Some c) ↔ (clerks_f.Ok c × (frame ≡ clerks_f.enc c))
 
 -- so the claims speak of every unit of a frame
 abbrev pub UnitsProper : Type 0
@@ -68,9 +67,9 @@ FirstWriteFew = (e : ProviderEvent) (p : Party) → Event e → Update p.wanted 
 
 -- 3 comes first, then 10, then 6, which a merge of either order gives
 pub record InOrder (frame : Bytes) : Type 0 where
-  pub first : whole_of clerks_f frame ≡ none → two_clerks frame ≡ Answer.Refused no_frame
-  pub then : (c : Clerks) → whole_of clerks_f frame ≡ some c → all_apart c ≡ false → two_clerks frame ≡ Answer.Refused address_twice
-  pub last : (c : Clerks) → whole_of clerks_f frame ≡ some c → all_apart c ≡ true
+  pub first : whole_of clerks_f frame ≡ None → two_clerks frame ≡ Answer.Refused no_frame
+  pub then : (c : Clerks) → whole_of clerks_f frame ≡ Some c → all_apart c ≡ false → two_clerks frame ≡ Answer.Refused address_twice
+  pub last : (c : Clerks) → whole_of clerks_f frame ≡ Some c → all_apart c ≡ true
       → ((accepted c.event c.one c.two ≡ false) ⊎ (accepted c.event c.two c.one ≡ false)) → two_clerks frame ≡ Answer.Refused too_many
 
 abbrev pub RefusedInOrder : Type 0

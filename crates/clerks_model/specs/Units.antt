@@ -1,6 +1,5 @@
 -- The units of a booking, each with its value in an event, and the units of a frame. Assumes nothing.
-use Rattle.std.specs.Prelude.{ℕ, ◌+◌, ◌*◌, List, [], ◌∷◌, ◌++◌, Bool, true, false, length}
-use Rattle.std.proofs.Math.Option.{Option, none, some}
+use Rattle.std.specs.Prelude.{ℕ, ◌+◌, ◌*◌, List, [], ◌∷◌, ◌++◌, Bool, true, false, length, Option, Some, None}
 use Rattle.format.specs.Format.{option}
 use Rattle.model.specs.Event.{Text, Attendee, NormalizedEvent}
 use Rattle.model.specs.Limits.{max_attendees}
@@ -43,34 +42,34 @@ folded a = to_ascii_lowercase a.address
 
 -- the entry with a folded address
 unfoldable pub entry : Text → List Attendee → Option Attendee
-entry address [] = none
-entry address (a ∷ l) = when same_text (folded a) address then some a else entry address l
+entry address [] = None
+entry address (a ∷ l) = when same_text (folded a) address then Some a else entry address l
 
 -- a unit's value: its bytes. `none` is the absence of an entry: a value of its rest, while its reply has no value then
 abbrev pub Value : Type 0
 Value = Option Bytes
 
 unfoldable pub rest_of : Option Attendee → Value
-rest_of none = none
-rest_of (some a) = some (attendee_f.enc (rest a))
+rest_of None = None
+rest_of (Some a) = Some (attendee_f.enc (rest a))
 
 unfoldable pub reply_of : Option Attendee → Value
-reply_of none = none
-reply_of (some a) = some (participation_f.enc a.participation)
+reply_of None = None
+reply_of (Some a) = Some (participation_f.enc a.participation)
 
 unfoldable pub value : Unit → NormalizedEvent → Value
-value Unit.Title e = some ((option short_text).enc e.title)
-value Unit.Times e = some (tag.enc e.times)
-value Unit.Recurrence e = some ((option tag).enc e.recurrence)
-value Unit.Organizer e = some ((option organizer_f).enc e.organizer)
+value Unit.Title e = Some ((option short_text).enc e.title)
+value Unit.Times e = Some (tag.enc e.times)
+value Unit.Recurrence e = Some ((option tag).enc e.recurrence)
+value Unit.Organizer e = Some ((option organizer_f).enc e.organizer)
 value (Unit.Rest address) e = rest_of (entry address e.attendees)
 value (Unit.Reply address) e = reply_of (entry address e.attendees)
-value Unit.Location e = some ((option short_text).enc e.location)
-value Unit.Description e = some ((option tag).enc e.description)
-value Unit.Status e = some (status_f.enc e.status)
-value Unit.Transparency e = some (transparency_f.enc e.transparency)
-value Unit.Visibility e = some (visibility_f.enc e.visibility)
-value Unit.Reminders e = some (tag.enc e.reminders)
+value Unit.Location e = Some ((option short_text).enc e.location)
+value Unit.Description e = Some ((option tag).enc e.description)
+value Unit.Status e = Some (status_f.enc e.status)
+value Unit.Transparency e = Some (transparency_f.enc e.transparency)
+value Unit.Visibility e = Some (visibility_f.enc e.visibility)
+value Unit.Reminders e = Some (tag.enc e.reminders)
 
 -- ---- a frame's units
 

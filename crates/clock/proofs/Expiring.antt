@@ -1,10 +1,11 @@
 -- The entries of one queue: those that are due are told, and leave it. Assumes nothing.
+use Rattle.std.specs.Prelude.{Some}
+use Rattle.format.proofs.Options.{Some-injective, None-ne-Some}
 use Prim.Native.Nat.{ℕ, zero, suc, ◌+◌, ◌-◌, ◌≤◌, ◌<◌}
 use native.Mathlib.Nat.{not-suc-le-zero, le_of_suc-le-suc}
 use native.Mathlib.Omega.{arith}
 use mathlib.Core.Path.{◌≡◌, refl, sym, ap, ◌∙◌, subst}
 use mathlib.Core.List.{List, [], ◌∷◌, ◌++◌}
-use mathlib.Core.Option.{some, some-injective, none-ne-some}
 use mathlib.Core.Bool.{Bool, true, false, not}
 use lib.ListN.{length, take, drop, get_or, length-drop}
 use lib.Seq.{take_all}
@@ -38,13 +39,13 @@ due_at r j {w = w} {b} e B = subst (λ (t : Timestamp). Reads (λ s. is_some_and
 abbrev pub tell_id : EditId → Machine → Run
 tell_id id = tell (Notice.Expired id)
 
-nth_there : (k : ℕ) (ids : List Text) → k < length ids → nth_id k ids ≡ some (get_or ids k [])
+nth_there : (k : ℕ) (ids : List Text) → k < length ids → nth_id k ids ≡ Some (get_or ids k [])
 unfolding nth_id
 nth_there k [] h = absurd (not-suc-le-zero h)
 nth_there zero (x ∷ ids) h = refl
 nth_there (suc k) (x ∷ ids) h = nth_there k ids (le_of_suc-le-suc h)
 
-module _ (r : ResourceId) (j n : ℕ) (e : Pending) {w : List ℕ} (H : HasState w) (N : Reads (λ s. ids_number (nth j (queue r s))) w n) (E : Reads (λ s. nth j (queue r s)) w (some e)) where
+module _ (r : ResourceId) (j n : ℕ) (e : Pending) {w : List ℕ} (H : HasState w) (N : Reads (λ s. ids_number (nth j (queue r s))) w n) (E : Reads (λ s. nth j (queue r s)) w (Some e)) where
   number : n ≡ length (ids_of e)
   unfolding ids_number
   number = N.is H.state H.keeps ∙ ap ids_number (sym (E.is H.state H.keeps))
@@ -65,7 +66,7 @@ module _ (r : ResourceId) (j n : ℕ) (e : Pending) {w : List ℕ} (H : HasState
 
 -- ---- one entry
 
-due_is : (r : ResourceId) (j : ℕ) (at : Timestamp) (e : Pending) {w : List ℕ} {b : Bool} → HasState w → Reads (λ s. is_some_and (λ p. due at p.edit) (nth j (queue r s))) w b → Reads (λ s. nth j (queue r s)) w (some e) → due at e.edit ≡ b
+due_is : (r : ResourceId) (j : ℕ) (at : Timestamp) (e : Pending) {w : List ℕ} {b : Bool} → HasState w → Reads (λ s. is_some_and (λ p. due at p.edit) (nth j (queue r s))) w b → Reads (λ s. nth j (queue r s)) w (Some e) → due at e.edit ≡ b
 unfolding is_some_and
 due_is r j at e H B E = sym (B.is H.state H.keeps ∙ ap (is_some_and (λ p. due at p.edit)) (sym (E.is H.state H.keeps)))
 
@@ -78,11 +79,11 @@ unfolding due_entries filter when◌then◌else◌ for_each
 one_left at e m d = rw d
 
 module _ (r : ResourceId) (j : ℕ) (at : Timestamp) {w : List ℕ} {b : Bool} (H : HasState w) (B : Reads (λ s. is_some_and (λ p. due at p.edit) (nth j (queue r s))) w b) where
-  pub told : {o o' : List ℕ} {p q : Progress} → b ≡ true → ((e : Pending) → Reads (λ s. nth j (queue r s)) w (some e) → Does (tell_expired e) w o p q w o')
-      → (e : Pending) → Reads (λ s. nth j (queue r s)) w (some e) → Does (tell_due at (e ∷ [])) w o p q w o'
+  pub told : {o o' : List ℕ} {p q : Progress} → b ≡ true → ((e : Pending) → Reads (λ s. nth j (queue r s)) w (Some e) → Does (tell_expired e) w o p q w o')
+      → (e : Pending) → Reads (λ s. nth j (queue r s)) w (Some e) → Does (tell_due at (e ∷ [])) w o p q w o'
   told z D e E = runs.is (tell_due at (e ∷ [])) (λ m. one_told at e m (due_is r j at e H B E ∙ z)) (D e E)
 
-  pub not_told : {o : List ℕ} {p : Progress} → b ≡ false → (e : Pending) → Reads (λ s. nth j (queue r s)) w (some e) → Does (tell_due at (e ∷ [])) w o p p w o
+  pub not_told : {o : List ℕ} {p : Progress} → b ≡ false → (e : Pending) → Reads (λ s. nth j (queue r s)) w (Some e) → Does (tell_due at (e ∷ [])) w o p p w o
   not_told z e E = runs.is (tell_due at (e ∷ [])) (λ m. one_left at e m (due_is r j at e H B E ∙ z)) runs.nothing
 
 -- ---- the entries behind the first n
@@ -105,10 +106,10 @@ due_more : (at : Timestamp) (a b : Queue) (m : Machine) → (tell_due at a m >>=
 unfolding due_entries
 due_more at a b m = sym (ap (λ (l : Queue). for_each tell_expired l m) (filter_append (λ p. due at p.edit) a b) ∙ for_append tell_expired (due_entries at a) (due_entries at b) m)
 
-take_more : (i : ℕ) (q : Queue) (e : Pending) → nth i q ≡ some e → take (suc i) q ≡ take i q ++ (e ∷ [])
+take_more : (i : ℕ) (q : Queue) (e : Pending) → nth i q ≡ Some e → take (suc i) q ≡ take i q ++ (e ∷ [])
 unfolding nth
-take_more i [] e g = absurd (none-ne-some e g)
-take_more zero (p ∷ q) e g = ap (λ (x : Pending). x ∷ []) (some-injective p e g)
+take_more i [] e g = absurd (None-ne-Some e g)
+take_more zero (p ∷ q) e g = ap (λ (x : Pending). x ∷ []) (Some-injective p e g)
 take_more (suc i) (p ∷ q) e g = ap (λ (l : Queue). p ∷ l) (take_more i q e g)
 
 nth_drop : (n i : ℕ) (q : Queue) → nth i (drop n q) ≡ nth (n + i) q
@@ -126,15 +127,15 @@ module _ (r : ResourceId) (at : Timestamp) (n total : ℕ) {w : List ℕ} (H : H
   long = N.is H.state H.keeps ∙ ap length (sym (Q.is H.state H.keeps))
 
   pub due_turn : (j : ℕ) {o o₁ o₂ : List ℕ} {p q s : Progress} → n ≤ j → j < total → Does (tell_due at (take (j - n) (drop n l))) w o p q w o₁
-      → ((e : Pending) → Reads (λ s. nth j (queue r s)) w (some e) → Does (tell_due at (e ∷ [])) w o₁ q s w o₂) → Does (tell_due at (take (j + 1 - n) (drop n l))) w o p s w o₂
+      → ((e : Pending) → Reads (λ s. nth j (queue r s)) w (Some e) → Does (tell_due at (e ∷ [])) w o₁ q s w o₂) → Does (tell_due at (take (j + 1 - n) (drop n l))) w o p s w o₂
   due_turn j a b D T =
       let c : total ≡ length l = long in
       let E = nth_some j l (omega arith) in
       let k : n + (j - n) ≡ j = omega arith in
       let i : j + 1 - n ≡ suc (j - n) = omega arith in
-      let g : nth (j - n) (drop n l) ≡ some E.0 = nth_drop n (j - n) l ∙ ap (λ (x : ℕ). nth x l) k ∙ E.1 in
+      let g : nth (j - n) (drop n l) ≡ Some E.0 = nth_drop n (j - n) l ∙ ap (λ (x : ℕ). nth x l) k ∙ E.1 in
       let t : take (j - n) (drop n l) ++ (E.0 ∷ []) ≡ take (j + 1 - n) (drop n l) = sym (ap (λ (x : ℕ). take x (drop n l)) i ∙ take_more (j - n) (drop n l) E.0 g) in
-      let R : Reads (λ s. nth j (queue r s)) w (some E.0) = record { is = λ s h. sym E.1 ∙ ap (nth j) (Q.is s h) } in
+      let R : Reads (λ s. nth j (queue r s)) w (Some E.0) = record { is = λ s h. sym E.1 ∙ ap (nth j) (Q.is s h) } in
       runs.is (tell_due at (take (j + 1 - n) (drop n l))) (λ m. due_more at (take (j - n) (drop n l)) (E.0 ∷ []) m ∙ ap (λ (x : Queue). tell_due at x m) t) (runs.next D (T E.0 R))
 
   pub due_end : (j : ℕ) {o o₁ : List ℕ} {p q : Progress} → n ≤ j → total ≤ j → Does (tell_due at (take (j - n) (drop n l))) w o p q w o₁ → Does (tell_due at (drop n l)) w o p q w o₁

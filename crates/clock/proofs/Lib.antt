@@ -1,5 +1,3 @@
--- A loop over the resources that have a queue.
-pub mod Resources
 -- The entries of one queue.
 pub mod Expiring
 -- One queue at a tick, and all of them.

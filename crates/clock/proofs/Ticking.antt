@@ -1,10 +1,11 @@
 -- One queue at a tick, and all of them. Assumes nothing.
+use Rattle.std.specs.Prelude.{Some}
 use Prim.Native.Nat.{ℕ}
 use mathlib.Core.Path.{◌≡◌, refl, sym, ap, ap₂, ◌∙◌, subst}
 use mathlib.Core.List.{List, [], ◌∷◌}
-use mathlib.Core.Option.{some}
 use mathlib.Core.Bool.{Bool, true, false, not, ◌&&◌, false≢true}
 use lib.ListN.{drop}
+use Rattle.format.specs.Format.{stamp}
 use Rattle.model.specs.Seam.{ResourceId}
 use Rattle.model.specs.Edits.{Timestamp}
 use Rattle.model.specs.State.{Pending, Queue, Purpose, SyncState}
@@ -34,9 +35,6 @@ module _ (r : ResourceId) (at : Timestamp) {w : List ℕ} {b : Bool} (B : Reads 
   falls {a} z A = record {
     is = λ s h. ap₂ (λ (x y : Bool). x && not y) (sym z ∙ B.is s h) (A.is s h ∙ any_same (same purpose_f (Purpose.EditWrite r)) (edit_writes r) (bridge.edit_writes_is r) (values s.in_flight));
   }
-
-  pub stays : b ≡ false → Reads (head_falls at r) w false
-  stays z = record { is = λ s h. ap (λ (x : Bool). x && not (any (edit_writes r) (values s.in_flight))) (sym z ∙ B.is s h) }
 
 -- ---- one queue
 
@@ -118,6 +116,8 @@ each_at {w = w} {o} {w₁} {o₁} {p} {q} e D = subst (λ (t : Timestamp). Does 
 
 -- ---- all of them
 
-pub ticks : (at : Timestamp) {w w₁ o w₂ o₂ : List ℕ} {p q : Progress} → Edits (with_now (some at)) w w₁ → Does (tick_each at) w₁ o p q w₂ o₂ → Does (tick at) w o p q w₂ o₂
+pub ticks : (at : Timestamp) {x : Timestamp} {w w₁ o w₂ o₂ : List ℕ} {p q : Progress} → x ≡ at → stamp.Ok at → (stamp.Ok x → Edits (with_now (Some x)) w w₁) → Does (tick_each x) w₁ o p q w₂ o₂ → Does (tick at) w o p q w₂ o₂
 unfolding tick set_now
-ticks at E D = runs.is (tick at) (λ m. refl) (runs.edit {g = tick_each at} E D)
+ticks at {w = w} {w₁} e k E D =
+    let F : stamp.Ok at → Edits (with_now (Some at)) w w₁ = subst (λ (t : Timestamp). stamp.Ok t → Edits (with_now (Some t)) w w₁) e E in
+    runs.is (tick at) (λ m. refl) (runs.edit {g = tick_each at} (F k) (each_at e D))

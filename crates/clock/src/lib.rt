@@ -1,8 +1,7 @@
 // Time: edits that are past their expiry.
 #![tactic(auto)]
 
-ghost use Rattle.std.specs.Prelude.{[], ◌∷◌, drop};
-ghost use Rattle.std.proofs.Math.Option.{some};
+ghost use Rattle.std.specs.Prelude.{[], ◌∷◌, drop, Some};
 ghost use Rattle.format.specs.Format.{stamp};
 ghost use Rattle.model.specs.State.{Pending, Queue};
 ghost use Rattle.model.specs.Calls.{Notice, Effect};
@@ -15,15 +14,14 @@ ghost use Rattle.clock.specs.Expiring.{tell_due, kept_behind, unless_due, head_f
 
 use machine::Progress;
 use names::Name;
-use state::Kind;
+use state::Purpose;
 
 // ---- SyncState::tick: notices
 
 fn tell_id(out: &mut [u8], p: Progress, id: Name) -> Progress
     ensures { Pushes (Effect.Notify (Notice.Expired (name_of id.bytes))) out.old p result out.new }
 {
-    let key = id.bytes;
-    let pen = effects::expired(machine::pen_of(p), out, machine::text_of(&key));
+    let pen = effects::expired(machine::pen_of(p), out, machine::text_of(&id.bytes));
     machine::sent(p, pen)
 }
 
@@ -31,15 +29,13 @@ fn tell_id(out: &mut [u8], p: Progress, id: Name) -> Progress
 fn tell_expired(work: &[u8], out: &mut [u8], p: Progress, name: Name, j: usize) -> Progress
     requires has_state { HasState work.now }
     requires named { Named name.bytes }
-    ensures { (e : Pending) → Reads (λ s. nth j (queue (name_of name.bytes) s)) work.now (some e) → Does (tell_expired e) work.now out.old p result work.now out.new }
+    ensures { (e : Pending) → Reads (λ s. nth j (queue (name_of name.bytes) s)) work.now (Some e) → Does (tell_expired e) work.now out.old p result work.now out.new }
 {
     let n = waiting::ids_count(work, name, j);
     let mut q = p;
-    let mut k = 0;
-    while k < n {
+    for k in 0..n {
         let id = waiting::entry_id(work, name, j, k);
         q = tell_id(out, q, id);
-        k += 1;
     }
     q
 }
@@ -48,7 +44,7 @@ fn tell_expired(work: &[u8], out: &mut [u8], p: Progress, name: Name, j: usize) 
 fn tell_if_due(work: &[u8], out: &mut [u8], p: Progress, name: Name, j: usize, at: i64) -> Progress
     requires has_state { HasState work.now }
     requires named { Named name.bytes }
-    ensures { (e : Pending) → Reads (λ s. nth j (queue (name_of name.bytes) s)) work.now (some e) → Does (tell_due at (e ∷ [])) work.now out.old p result work.now out.new }
+    ensures { (e : Pending) → Reads (λ s. nth j (queue (name_of name.bytes) s)) work.now (Some e) → Does (tell_due at (e ∷ [])) work.now out.old p result work.now out.new }
 {
     if waiting::is_due(work, name, j, at) {
         return tell_expired(work, out, p, name, j);
@@ -64,10 +60,8 @@ fn tell_due(work: &[u8], out: &mut [u8], p: Progress, name: Name, n: usize, at: 
 {
     let total = waiting::waiting_count(work, name);
     let mut q = p;
-    let mut j = n;
-    while j < total {
+    for j in n..total {
         q = tell_if_due(work, out, q, name, j, at);
-        j += 1;
     }
     q
 }
@@ -90,9 +84,8 @@ fn drop_due(work: &mut [u8], name: Name, n: usize, at: i64)
     requires named { Named name.bytes }
     ensures { Edits (λ s. put_queue (name_of name.bytes) (kept_behind n at (queue (name_of name.bytes) s)) s) work.old work.new }
 {
-    let mut j = waiting::waiting_count(work, name);
-    while n < j {
-        j -= 1;
+    let total = waiting::waiting_count(work, name);
+    for j in (n..total).rev() {
         drop_if_due(work, name, j, at);
     }
 }
@@ -102,10 +95,7 @@ fn head_falls(work: &[u8], name: Name, at: i64) -> bool
     requires named { Named name.bytes }
     ensures { Reads (head_falls at (name_of name.bytes)) work.now result }
 {
-    if waiting::is_due(work, name, 0, at) {
-        return !state::asks(work, Kind::EditWrite, name);
-    }
-    false
+    waiting::is_due(work, name, 0, at) && !state::asks(work, Purpose::EditWrite(name))
 }
 
 fn tick_resource(work: &mut [u8], out: &mut [u8], p: Progress, name: Name, at: i64) -> Progress
@@ -115,7 +105,7 @@ fn tick_resource(work: &mut [u8], out: &mut [u8], p: Progress, name: Name, at: i
 {
     if head_falls(work, name, at) {
         let q = tell_due(work, out, p, name, 0, at);
-        state::drop_in_flight(work, Kind::EditRead, name);
+        state::drop_in_flight(work, Purpose::EditRead(name));
         drop_due(work, name, 0, at);
         return queues::start_edit(work, out, q, name);
     }
@@ -129,13 +119,10 @@ fn tick_each(work: &mut [u8], out: &mut [u8], p: Progress, at: i64) -> Progress
     ensures { Does (tick_each at) work.old out.old p result work.new out.new }
 {
     let names = waiting::resources(work);
-    let count = names.count;
     let mut q = p;
-    let mut k = 0;
-    while k < count {
-        let name = waiting::resource_name(names, k);
+    for k in 0..names.len() {
+        let name = names.name(k);
         q = tick_resource(work, out, q, name, at);
-        k += 1;
     }
     q
 }
@@ -145,6 +132,6 @@ pub fn tick(work: &mut [u8], out: &mut [u8], p: Progress, at: i64) -> Progress
     requires ok { stamp.Ok at }
     ensures { Does (tick at) work.old out.old p result work.new out.new }
 {
-    state::set_now(work, queues::bits_of(at));
+    state::set_now(work, at);
     tick_each(work, out, p, at)
 }

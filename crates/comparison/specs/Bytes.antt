@@ -1,6 +1,5 @@
 -- Encoded parts: compared, judged, and taken out of the bytes around them. Assumes nothing.
-use Rattle.std.specs.Prelude.{ℕ, ◌-◌, List, [], Bool, true, false, take, drop}
-use Rattle.std.proofs.Math.Option.{some}
+use Rattle.std.specs.Prelude.{ℕ, ◌-◌, List, [], Bool, true, false, take, drop, Some}
 use Rattle.format.specs.Format.{Format}
 use Rattle.model.specs.Maps.{same_text}
 use Rattle.model.specs.Merge as merge
@@ -21,7 +20,7 @@ meant_verdict Refused = merge.Verdict.Refused
 
 -- the bytes of bytes are the bytes themselves: `merge.verdict raw` is fn verdict of a unit's encoded parts
 abbrev pub raw : Format (List ℕ)
-raw = record { Ok = λ b. Unit {0}; enc = λ b. b; dec = λ b. some (b, []) }
+raw = record { Ok = λ b. Unit {0}; enc = λ b. b; dec = λ b. Some (b, []) }
 
 -- the bytes from one place to another
 abbrev pub span : List ℕ → ℕ → ℕ → List ℕ

@@ -1,8 +1,8 @@
 -- Which function handles which input and which answer. Assumes nothing.
+use Rattle.std.specs.Prelude.{Option, Some, None, option_map}
 use Prim.Native.Nat.{ℕ}
 use mathlib.Core.Path.{◌≡◌, refl, sym, ap, ◌∙◌, subst}
 use mathlib.Core.List.{List}
-use mathlib.Core.Option.{Option}
 use mathlib.Core.Bool.{Bool, true, false}
 use lib.IntN.{ℤ}
 use mir.Syntax.{w64}
@@ -10,7 +10,6 @@ use mir.Val.{of_z, to_z}
 use mir.Facts.{to_z-of_z}
 use Rattle.format.specs.Format.{◌⊗◌, via, enum, ◌∣◌, stamp}
 use Rattle.format.proofs.FormatLaws.{time_fits}
-use Rattle.model.specs.Event.{Text}
 use Rattle.model.specs.Seam.{RequestId}
 use Rattle.model.specs.Seam as seam
 use Rattle.model.specs.Calls as calls
@@ -24,37 +23,52 @@ use Rattle.frame.specs.declared.Outcome.{Outcome}
 use Rattle.frame.specs.declared.Input.{Input}
 use Rattle.frame.specs.declared.Input.TheVariants.{Sync, Edit as EditI, Outcome as OutcomeI, Tick, Resume}
 use Rattle.frame.specs.Meaning.{meant_edit, meant_outcome, meant_input}
-use Rattle.state.specs.declared.Kind.{Kind}
-use Rattle.state.specs.declared.Kind.TheVariants as kind
+use Rattle.names.specs.declared.Name.{Name}
+use Rattle.state.specs.declared.Purpose.{Purpose as Asked}
+use Rattle.state.specs.declared.Purpose.TheVariants as asked
 use Rattle.state.specs.Contract.{Reads, Edits}
-use Rattle.state.specs.Values.{name_of, purpose_of}
-use Rattle.flights.specs.Asked.{purpose_in}
+use Rattle.state.specs.Values.{name_of, purpose_in, Named, NamedIn}
 use Rattle.machine.specs.declared.Progress.{Progress}
 use Rattle.machine.specs.Contract.{Does}
 use Rattle.machine.proofs.Runs.{next, edit, last_edit, nothing as no_more, reading, taken, left, is}
 
 -- ---- an answer, by the purpose of its request
 
-module _ {w o w' o' : List ℕ} {p q : Progress} (id : RequestId) (name : Text) (outcome : seam.Outcome) (k : Kind) where
-  pub listing : k ≡ kind.List → Does (on_list id outcome) w o p q w' o' → Does (on_outcome id (purpose_of k name) outcome) w o p q w' o'
+module _ {w o w' o' : List ℕ} {p q : Progress} (id : RequestId) (outcome : seam.Outcome) (k : Asked) where
+  pub listing : k ≡ asked.List → Does (on_list id outcome) w o p q w' o' → Does (on_outcome id (purpose_in k) outcome) w o p q w' o'
   unfolding on_outcome
   listing e d = rw e (is (on_outcome id Purpose.List outcome) (λ m. refl) d)
 
-  pub pass_read : k ≡ kind.PassRead → Does (on_pass_read id name outcome) w o p q w' o' → Does (on_outcome id (purpose_of k name) outcome) w o p q w' o'
+  pub pass_read : (name : Name) → k ≡ asked.PassRead name → Does (on_pass_read id (name_of name.bytes) outcome) w o p q w' o' → Does (on_outcome id (purpose_in k) outcome) w o p q w' o'
   unfolding on_outcome
-  pass_read e d = rw e (is (on_outcome id (Purpose.PassRead name) outcome) (λ m. refl) d)
+  pass_read name e d = rw e (is (on_outcome id (Purpose.PassRead (name_of name.bytes)) outcome) (λ m. refl) d)
 
-  pub edit_read : k ≡ kind.EditRead → Does (on_edit_read id name outcome) w o p q w' o' → Does (on_outcome id (purpose_of k name) outcome) w o p q w' o'
+  pub edit_read : (name : Name) → k ≡ asked.EditRead name → Does (on_edit_read id (name_of name.bytes) outcome) w o p q w' o' → Does (on_outcome id (purpose_in k) outcome) w o p q w' o'
   unfolding on_outcome
-  edit_read e d = rw e (is (on_outcome id (Purpose.EditRead name) outcome) (λ m. refl) d)
+  edit_read name e d = rw e (is (on_outcome id (Purpose.EditRead (name_of name.bytes)) outcome) (λ m. refl) d)
 
-  pub edit_write : k ≡ kind.EditWrite → Does (on_edit_write id name outcome) w o p q w' o' → Does (on_outcome id (purpose_of k name) outcome) w o p q w' o'
+  pub edit_write : (name : Name) → k ≡ asked.EditWrite name → Does (on_edit_write id (name_of name.bytes) outcome) w o p q w' o' → Does (on_outcome id (purpose_in k) outcome) w o p q w' o'
   unfolding on_outcome
-  edit_write e d = rw e (is (on_outcome id (Purpose.EditWrite name) outcome) (λ m. refl) d)
+  edit_write name e d = rw e (is (on_outcome id (Purpose.EditWrite (name_of name.bytes)) outcome) (λ m. refl) d)
 
-  pub refresh : k ≡ kind.Refresh → Does (on_refresh id name outcome) w o p q w' o' → Does (on_outcome id (purpose_of k name) outcome) w o p q w' o'
+  pub refresh : (name : Name) → k ≡ asked.Refresh name → Does (on_refresh id (name_of name.bytes) outcome) w o p q w' o' → Does (on_outcome id (purpose_in k) outcome) w o p q w' o'
   unfolding on_outcome
-  refresh e d = rw e (is (on_outcome id (Purpose.Refresh name) outcome) (λ m. refl) d)
+  refresh name e d = rw e (is (on_outcome id (Purpose.Refresh (name_of name.bytes)) outcome) (λ m. refl) d)
+
+-- ---- its name is a name
+
+module _ (k : Asked) (named : NamedIn k) where
+  pub pass_read_named : (name : Name) → k ≡ asked.PassRead name → Named name.bytes
+  pass_read_named name e = rw e at named
+
+  pub edit_read_named : (name : Name) → k ≡ asked.EditRead name → Named name.bytes
+  edit_read_named name e = rw e at named
+
+  pub edit_write_named : (name : Name) → k ≡ asked.EditWrite name → Named name.bytes
+  edit_write_named name e = rw e at named
+
+  pub refresh_named : (name : Name) → k ≡ asked.Refresh name → Named name.bytes
+  refresh_named name e = rw e at named
 
 -- the request is no longer in flight, its answer is handled, and a commit is tried
 pub known_is : {w w₁ o w₂ o₂ w₃ o₃ : List ℕ} {p q r : Progress} (id : RequestId) (purpose : Purpose) (outcome : seam.Outcome)
@@ -66,19 +80,19 @@ known_is id purpose outcome E D C = is (known_outcome id purpose outcome) (λ m.
 abbrev by_purpose : RequestId → seam.Outcome → Option Purpose → Machine → Run
 by_purpose id outcome v m = match v none: ok m some: (λ purpose. known_outcome id purpose outcome m)
 
-module _ {w o : List ℕ} {p : Progress} (id : RequestId) (outcome : seam.Outcome) (found : Bool) (k : Kind) (b : List ℕ) (R : Reads (λ s. get by_number id s.in_flight) w (purpose_in found k b)) where
+module _ {w o : List ℕ} {p : Progress} (id : RequestId) (outcome : seam.Outcome) (found : Option Asked) (R : Reads (λ s. get by_number id s.in_flight) w (option_map purpose_in found)) where
   -- no such request is in flight
-  pub unknown : found ≡ false → Does (handle (calls.Input.Outcome id outcome)) w o p p w o
+  pub unknown : found ≡ None → Does (handle (calls.Input.Outcome id outcome)) w o p p w o
   unfolding handle match◌none:◌some:◌
   unknown e =
       is (handle (calls.Input.Outcome id outcome)) (λ m. refl)
-      (reading (by_purpose id outcome) (subst (λ (x : Bool). Reads (λ s. get by_number id s.in_flight) w (purpose_in x k b)) e R) no_more)
+      (reading (by_purpose id outcome) (subst (λ (x : Option Asked). Reads (λ s. get by_number id s.in_flight) w (option_map purpose_in x)) e R) no_more)
 
-  pub known : {w' o' : List ℕ} {q : Progress} → found ≡ true → Does (known_outcome id (purpose_of k (name_of b)) outcome) w o p q w' o' → Does (handle (calls.Input.Outcome id outcome)) w o p q w' o'
+  pub known : {w' o' : List ℕ} {q : Progress} (k : Asked) → found ≡ Some k → Does (known_outcome id (purpose_in k) outcome) w o p q w' o' → Does (handle (calls.Input.Outcome id outcome)) w o p q w' o'
   unfolding handle match◌none:◌some:◌
-  known e d =
+  known k e d =
       is (handle (calls.Input.Outcome id outcome)) (λ m. refl)
-      (reading (by_purpose id outcome) (subst (λ (x : Bool). Reads (λ s. get by_number id s.in_flight) w (purpose_in x k b)) e R) d)
+      (reading (by_purpose id outcome) (subst (λ (x : Option Asked). Reads (λ s. get by_number id s.in_flight) w (option_map purpose_in x)) e R) d)
 
 -- ---- a time passes from one function to another as its 64 bits
 

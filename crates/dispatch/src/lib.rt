@@ -7,13 +7,12 @@ ghost use Rattle.model.specs.Formats.{input_f, outcome_f};
 ghost use Rattle.model.specs.Sync.{on_outcome, known_outcome, handle, apply};
 ghost use Rattle.frame.specs.Meaning.{meant_outcome, meant_input};
 ghost use Rattle.state.specs.Contract.{HasState};
-ghost use Rattle.state.specs.Values.{name_of, Named, purpose_of};
+ghost use Rattle.state.specs.Values.{NamedIn, purpose_in};
 ghost use Rattle.machine.specs.Contract.{Does};
 
 use frame::{Input, Outcome};
 use machine::Progress;
-use names::Name;
-use state::Kind;
+use state::Purpose;
 
 // The answer to a request for a purpose.
 fn on_outcome(
@@ -22,30 +21,19 @@ fn on_outcome(
     p: Progress,
     frame: &[u8],
     id: u64,
-    kind: Kind,
-    name: Name,
+    purpose: Purpose,
     outcome: Outcome,
 ) -> Progress
     requires has_state { HasState work.old }
-    requires named { (Named name.bytes) × (outcome_f.Ok (meant_outcome frame.now outcome)) }
-    ensures { Does (on_outcome id (purpose_of kind (name_of name.bytes)) (meant_outcome frame.now outcome)) work.old out.old p result work.new out.new }
+    requires named { (NamedIn purpose) × (outcome_f.Ok (meant_outcome frame.now outcome)) }
+    ensures { Does (on_outcome id (purpose_in purpose) (meant_outcome frame.now outcome)) work.old out.old p result work.new out.new }
 {
-    match kind {
-        Kind::List => {
-            return passes::on_list(work, out, p, frame, id, outcome);
-        }
-        Kind::PassRead => {
-            return passes::on_pass_read(work, out, p, frame, id, name, outcome);
-        }
-        Kind::EditRead => {
-            return answers::on_edit_read(work, out, p, id, name, frame, outcome);
-        }
-        Kind::EditWrite => {
-            return answers::on_edit_write(work, out, p, id, name, frame, outcome);
-        }
-        Kind::Refresh => {
-            return observe::on_refresh(work, out, p, frame, id, name, outcome);
-        }
+    match purpose {
+        Purpose::List => passes::on_list(work, out, p, frame, id, outcome),
+        Purpose::PassRead(name) => passes::on_pass_read(work, out, p, frame, id, name, outcome),
+        Purpose::EditRead(name) => answers::on_edit_read(work, out, p, id, name, frame, outcome),
+        Purpose::EditWrite(name) => answers::on_edit_write(work, out, p, id, name, frame, outcome),
+        Purpose::Refresh(name) => observe::on_refresh(work, out, p, frame, id, name, outcome),
     }
 }
 
@@ -55,16 +43,15 @@ fn known_outcome(
     p: Progress,
     frame: &[u8],
     id: u64,
-    kind: Kind,
-    name: Name,
+    purpose: Purpose,
     outcome: Outcome,
 ) -> Progress
     requires has_state { HasState work.old }
-    requires named { (Named name.bytes) × (outcome_f.Ok (meant_outcome frame.now outcome)) }
-    ensures { Does (known_outcome id (purpose_of kind (name_of name.bytes)) (meant_outcome frame.now outcome)) work.old out.old p result work.new out.new }
+    requires named { (NamedIn purpose) × (outcome_f.Ok (meant_outcome frame.now outcome)) }
+    ensures { Does (known_outcome id (purpose_in purpose) (meant_outcome frame.now outcome)) work.old out.old p result work.new out.new }
 {
     state::remove_in_flight(work, id);
-    let q = on_outcome(work, out, p, frame, id, kind, name, outcome);
+    let q = on_outcome(work, out, p, frame, id, purpose, outcome);
     passes::try_commit(work, out, q)
 }
 
@@ -81,14 +68,10 @@ fn outcome_of(
     requires ok { outcome_f.Ok (meant_outcome frame.now outcome) }
     ensures { Does (handle (answers id (meant_outcome frame.now outcome))) work.old out.old p result work.new out.new }
 {
-    let asked = flights::purpose(work, id);
-    let found = asked.found;
-    let kind = asked.kind;
-    let name = asked.name;
-    if !found {
-        return p;
+    match flights::purpose(work, id) {
+        None => p,
+        Some(purpose) => known_outcome(work, out, p, frame, id, purpose, outcome),
     }
-    known_outcome(work, out, p, frame, id, kind, name, outcome)
 }
 
 fn sync(work: &mut [u8], out: &mut [u8], p: Progress) -> Progress
@@ -96,9 +79,10 @@ fn sync(work: &mut [u8], out: &mut [u8], p: Progress) -> Progress
     ensures { Does (handle syncs) work.old out.old p result work.new out.new }
 {
     if pass_tables::is_open(work) {
-        return p;
+        p
+    } else {
+        passes::start_pass(work, out, p)
     }
-    passes::start_pass(work, out, p)
 }
 
 fn handle(work: &mut [u8], out: &mut [u8], p: Progress, frame: &[u8], input: Input) -> Progress
@@ -107,21 +91,11 @@ fn handle(work: &mut [u8], out: &mut [u8], p: Progress, frame: &[u8], input: Inp
     ensures { Does (handle (meant_input frame.now input)) work.old out.old p result work.new out.new }
 {
     match input {
-        Input::Sync => {
-            return sync(work, out, p);
-        }
-        Input::Edit(edit) => {
-            return queues::enqueue(work, out, p, frame, edit);
-        }
-        Input::Outcome(id, outcome) => {
-            return outcome_of(work, out, p, frame, id, outcome);
-        }
-        Input::Tick(time) => {
-            return clock::tick(work, out, p, time);
-        }
-        Input::Resume => {
-            return restarts::resume(work, out, p);
-        }
+        Input::Sync => sync(work, out, p),
+        Input::Edit(edit) => queues::enqueue(work, out, p, frame, edit),
+        Input::Outcome(id, outcome) => outcome_of(work, out, p, frame, id, outcome),
+        Input::Tick(time) => clock::tick(work, out, p, time),
+        Input::Resume => restarts::resume(work, out, p),
     }
 }
 

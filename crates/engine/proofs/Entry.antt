@@ -1,9 +1,9 @@
 -- From what the functions promise to the model's `entry`. Assumes nothing.
+use Rattle.std.specs.Prelude.{Option, Some, None}
 use Prim.Native.Nat.{ℕ, ◌≤◌}
 use native.Mathlib.Omega.{arith}
 use mathlib.Core.Path.{◌≡◌, refl, sym, ap, ap₂, ◌∙◌, subst}
 use mathlib.Core.List.{List, [], ◌++◌}
-use mathlib.Core.Option.{Option, none, some}
 use mathlib.Core.Bool.{true, false}
 use lib.ListN.{length, take, drop}
 use lib.Seq.{length-take-le, take-take, take_at}
@@ -39,12 +39,12 @@ use Rattle.engine.proofs.Laws.{copied, refused_is}
 pub has_state : {b : List ℕ} → IsState b → HasState b
 has_state I = record { state = I.state; keeps = keeps_of I }
 
-pub not_read : (b : List ℕ) → (IsState b → ⊥) → read_state document01 b ≡ none
+pub not_read : (b : List ℕ) → (IsState b → ⊥) → read_state document01 b ≡ None
 not_read b n = go (read_state document01 b) refl
   where
-    go : (o : Option SyncState) → read_state document01 b ≡ o → read_state document01 b ≡ none
-    go none e = e
-    go (some s) e = absurd (n (is_read e))
+    go : (o : Option SyncState) → read_state document01 b ≡ o → read_state document01 b ≡ None
+    go None e = e
+    go (Some s) e = absurd (n (is_read e))
 
 -- ---- a step
 
@@ -128,23 +128,23 @@ module _ (s w o frame : List ℕ) where
   no_state a w' o' l n e = rw (← l, not_read s n) (refused_is a 2 s w o w' o' e.0 e.1 e.2 e.3)
 
   -- refusal 3
-  pub no_frame : (a : Answer) (w' o' : List ℕ) → true ≡ lengths_right document01 (lent s w o) → IsState s → none ≡ whole_of input_f frame
+  pub no_frame : (a : Answer) (w' o' : List ℕ) → true ≡ lengths_right document01 (lent s w o) → IsState s → None ≡ whole_of input_f frame
       → (a.code ≡ 3) × (a.length ≡ 0) × (w' ≡ zeros (length w)) × (o' ≡ zeros (length o)) → returned a s w' o' ≡ entry document01 (lent s w o) frame
   unfolding entry step_bytes when◌then◌else◌ match◌none:◌some:◌ decode step_frame answered
   no_frame a w' o' l I d e = rw (← l, read_of I, ← d) (refused_is a 3 s w o w' o' e.0 e.1 e.2 e.3)
 
   -- the frame is an input
-  pub entered : (a : Answer) (i : Input) (s' w' o' : List ℕ) → true ≡ lengths_right document01 (lent s w o) → IsState s → some i ≡ whole_of input_f frame
+  pub entered : (a : Answer) (i : Input) (s' w' o' : List ℕ) → true ≡ lengths_right document01 (lent s w o) → IsState s → Some i ≡ whole_of input_f frame
       → Steps i s w o a s' w' o' → returned a s' w' o' ≡ entry document01 (lent s w o) frame
   unfolding entry step_bytes when◌then◌else◌ match◌none:◌some:◌ decode step_frame
   entered a i s' w' o' l I d S = S.is I.state (keeps_of I) ∙ rw (← l, read_of I, ← d)
 
   -- what the frame was read as
-  pub no_input : (r : Parsed) → r ≡ NoFrame → meant_parsed frame r ≡ reading_of (whole_of input_f frame) → none ≡ whole_of input_f frame
+  pub no_input : (r : Parsed) → r ≡ NoFrame → meant_parsed frame r ≡ reading_of (whole_of input_f frame) → None ≡ whole_of input_f frame
   no_input r e h = reading_none (whole_of input_f frame) (sym (ap (meant_parsed frame) e) ∙ h)
 
-  pub some_input : (r : Parsed) (i : parsed.Input) → r ≡ Frame i → meant_parsed frame r ≡ reading_of (whole_of input_f frame) → some (meant_input frame i) ≡ whole_of input_f frame
+  pub some_input : (r : Parsed) (i : parsed.Input) → r ≡ Frame i → meant_parsed frame r ≡ reading_of (whole_of input_f frame) → Some (meant_input frame i) ≡ whole_of input_f frame
   some_input r i e h = reading_some (meant_input frame i) (whole_of input_f frame) (sym (ap (meant_parsed frame) e) ∙ h)
 
-  pub input_ok : (i : Input) → some i ≡ whole_of input_f frame → input_f.Ok i
+  pub input_ok : (i : Input) → Some i ≡ whole_of input_f frame → input_f.Ok i
   input_ok i d = ((accepted frame i).0 (sym d)).0

@@ -1,9 +1,10 @@
 -- Change request 9/13, of calls of `step`. Assumes nothing.
+use Rattle.std.specs.Prelude.{Some}
+use Rattle.format.proofs.Options.{Some-injective}
 use Prim.Native.Nat.{ℕ, ◌-◌}
 use native.Mathlib.Omega.{arith}
 use mathlib.Core.Path.{◌≡◌, sym, ap, ap₂, ◌∙◌, subst}
 use mathlib.Core.List.{List, ◌++◌}
-use mathlib.Core.Option.{some, some-injective}
 use mathlib.Core.Bool.{true}
 use lib.ListN.{length, take}
 use lib.Seq.{take-append_seam}
@@ -28,7 +29,7 @@ use Rattle.engine.proofs.Theorems.{demand_2, nothing_else}
 -- ---- what the code says of what was lent
 
 module _ (c : Called) where
-  decoded : (s : SyncState) (input : Input) → read_state document01 c.lent.state ≡ some s → decode c.frame ≡ some input → Decoded c
+  decoded : (s : SyncState) (input : Input) → read_state document01 c.lent.state ≡ Some s → decode c.frame ≡ Some input → Decoded c
   unfolding decode
   decoded s input e d =
       let p = (model.states_exact document01 c.lent.state s).0 e in
@@ -53,8 +54,8 @@ module _ (c : Called) where
   refused_with h k (no_state l e) z = absurd (omega (arith, z))
   refused_with h k (no_input l e d) z = absurd (omega (arith, z))
   refused_with h k (in_step {s = s} {input = input} l e d r why) z =
-      let states : s ≡ h.state = some-injective s h.state (sym e ∙ (model.states_exact document01 c.lent.state h.state).1 (h.well, h.buffer)) in
-      let inputs : input ≡ h.input = some-injective input h.input (sym d ∙ (model.accepted c.frame h.input).1 (h.valid, h.frame)) in
+      let states : s ≡ h.state = Some-injective s h.state (sym e ∙ (model.states_exact document01 c.lent.state h.state).1 (h.well, h.buffer)) in
+      let inputs : input ≡ h.input = Some-injective input h.input (sym d ∙ (model.accepted c.frame h.input).1 (h.valid, h.frame)) in
       ap₂ (λ (s : SyncState) (i : Input). step document01 s i) (sym states) (sym inputs) ∙ r ∙ ap Stepped.Refused z
   refused_with h k (accepted l e d r) z = absurd (omega (arith, z))
 
@@ -65,7 +66,7 @@ module _ (c : Called) where
   refused_not_0 n no_room z = omega (arith, z)
 
   -- the effects of the step are those of the model's call, and so valid
-  call_is : (s : SyncState) (input : Input) (r : Stepped) → lengths_right document01 c.lent ≡ true → c.lent.state ≡ (state_layout document01).enc s → decode c.frame ≡ some input
+  call_is : (s : SyncState) (input : Input) (r : Stepped) → lengths_right document01 c.lent ≡ true → c.lent.state ≡ (state_layout document01).enc s → decode c.frame ≡ Some input
       → step document01 s input ≡ r → call document01 s (plain c) ≡ r
   unfolding call lend when◌then◌else◌ step_frame
   call_is s input r l b d h =
@@ -73,8 +74,8 @@ module _ (c : Called) where
       subst (λ (b : Bytes). lengths_right document01 (record { state = b; work = c.lent.work; out = c.lent.out }) ≡ true) b l in
       rw (l', d) h
 
-  accepted_call : (s s' : SyncState) (input : Input) (out : List Effect) → lengths_right document01 c.lent ≡ true → read_state document01 c.lent.state ≡ some s
-      → decode c.frame ≡ some input → step document01 s input ≡ Stepped.Done s' out → AcceptedCall c
+  accepted_call : (s s' : SyncState) (input : Input) (out : List Effect) → lengths_right document01 c.lent ≡ true → read_state document01 c.lent.state ≡ Some s
+      → decode c.frame ≡ Some input → step document01 s input ≡ Stepped.Done s' out → AcceptedCall c
   unfolding answered leaves effects_of decoded
   accepted_call s s' input out l e d h =
       let H : Decoded c = decoded s input e d in

@@ -1,7 +1,7 @@
 -- Calls of `step` meet the three demands, and refuse for no other reason. Assumes nothing.
+use Rattle.std.specs.Prelude.{Some}
 use mathlib.Core.Path.{◌≡◌, refl, sym, ap, ◌∙◌, subst}
 use mathlib.Core.List.{List, [], ◌∷◌}
-use mathlib.Core.Option.{some}
 use mathlib.Core.Bool.{Bool, true, false}
 use lib.Dec.{T}
 use Rattle.model.specs.Calls.{Input, Effect}
@@ -18,7 +18,7 @@ use Rattle.model.specs.Demands.{lend, call, state_after, after_calls, answer_of,
 use Rattle.model.proofs.Theorems as model
 use Rattle.engine.specs.Demands.{Called, Demand1, NothingElse, Demand2, Linked, left, plain, Answers, Meets}
 
-entry_is : (lent : Lent) (frame : Bytes) (s : SyncState) (i : Input) (b : Bool) → T b → lengths_right document01 lent ≡ b → read_state document01 lent.state ≡ some s → decode frame ≡ some i
+entry_is : (lent : Lent) (frame : Bytes) (s : SyncState) (i : Input) (b : Bool) → T b → lengths_right document01 lent ≡ b → read_state document01 lent.state ≡ Some s → decode frame ≡ Some i
     → entry document01 lent frame ≡ answered document01 lent (step document01 s i)
 unfolding entry step_bytes when◌then◌else◌ match◌none:◌some:◌ step_frame
 entry_is lent frame s i true t l e d = rw (l, e, d)

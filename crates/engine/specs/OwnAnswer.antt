@@ -1,7 +1,6 @@
 -- Change request 9/13, of calls of `step` on lent bytes: an Update request that answers an attendee's edit carries the event that was read, but for their own
 -- answer, and refusal 6 comes only to an owner. A call is known by what `step` ensures of it (`Called`). OwnAnswer.antt of proofs/ has the proofs. Assumes nothing.
-use Rattle.std.specs.Prelude.{◌≡◌, List, ◌∷◌, ◌++◌, take}
-use Rattle.std.proofs.Math.Option.{Option}
+use Rattle.std.specs.Prelude.{◌≡◌, List, ◌∷◌, ◌++◌, take, Option}
 use Rattle.format.specs.Format.{All}
 use Rattle.model.specs.Event.{Text, ProviderRevision, ProviderEvent}
 use Rattle.model.specs.Seam.{RequestId, ResourceId, Request}

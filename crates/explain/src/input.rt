@@ -1,80 +1,70 @@
 // Lines out of what is read.
+ghost use Rattle.std.specs.Prelude.{◌≤◌};
+ghost use Rattle.lines.specs.declared.TheConstants.{LINE};
+
 use crate::said::explain;
-use comparison::part;
+use lines::{LINE, LINE_FEED};
 use std::io::{Read, Stdin};
 
-// What is kept between two reads: the number of the line that is read, how many of its bytes there are, and whether the input goes on.
-#[derive(Clone, Copy)]
-pub struct Kept {
-    pub number: u64,
-    pub have: usize,
-    pub more: bool,
+// The line that is read: its number, and its bytes so far.
+#[derive(Drop)]
+pub struct Line {
+    number: u64,
+    bytes: [u8; LINE],
+    have: usize,
+    ghost fits: { have ≤ LINE },
 }
 
-// Reads once, and explains the lines that end there. The last line may lack its line feed.
-pub fn read_some(stdin: Stdin, state: &mut [u8], line: &mut [u8], kept: Kept) -> Kept {
+// The first line.
+pub fn first() -> Line {
+    Line {
+        number: 1,
+        bytes: [0; LINE],
+        have: 0,
+    }
+}
+
+// Reads once, and explains the lines that end there. Whether the input goes on; the last line may lack its line feed.
+pub fn read_some(stdin: Stdin, state: &mut [u8], line: &mut Line) -> bool {
     let mut chunk = io::large_buffer();
     let mut from = stdin;
-    let n = match from.read(&mut chunk) {
-        Ok(n) => n,
-        Err(_) => 0,
-    };
-    if 0 < n {
-        return split(state, line, kept, part(&chunk, 0, n));
+    let n = from.read(&mut chunk).unwrap_or(0);
+    if n == 0 {
+        line.last(state);
+        return false;
     }
-    if 0 < kept.have {
-        ended(state, line, kept);
+    for part in chunk[..n].split_inclusive(|b| *b == LINE_FEED) {
+        line.go_on(state, part);
     }
-    Kept {
-        number: kept.number,
-        have: 0,
-        more: false,
-    }
+    true
 }
 
-fn split(state: &mut [u8], line: &mut [u8], kept: Kept, chunk: &[u8]) -> Kept {
-    let mut now = kept;
-    let mut at = 0;
-    while at < chunk.len() {
-        let end = lines::line_end(chunk, at);
-        now = longer(line, now, part(chunk, at, end));
-        if end == chunk.len() {
-            return now;
+impl Line {
+    // The line goes on with a part of what was read, which may end it.
+    fn go_on(&mut self, state: &mut [u8], part: &[u8]) {
+        match part.strip_suffix(&[LINE_FEED]) {
+            Some(rest) => {
+                self.longer(rest);
+                self.ended(state);
+            }
+            None => self.longer(part),
         }
-        now = ended(state, line, now);
-        at = end + 1;
     }
-    now
-}
 
-// The line goes on with a part of what was read.
-fn longer(line: &mut [u8], kept: Kept, part: &[u8]) -> Kept {
-    let have = kept.have;
-    if line.len() < have {
-        return kept;
+    fn longer(&mut self, part: &[u8]) {
+        self.have = lines::keep(&mut self.bytes, self.have, part);
     }
-    Kept {
-        number: kept.number,
-        have: lines::keep(line, have, part),
-        more: true,
-    }
-}
 
-// The line is whole.
-fn ended(state: &mut [u8], line: &[u8], kept: Kept) -> Kept {
-    let number = kept.number;
-    let have = kept.have;
-    explain(state, number, part(line, 0, have));
-    Kept {
-        number: after(number),
-        have: 0,
-        more: true,
+    // The line is whole.
+    fn ended(&mut self, state: &mut [u8]) {
+        explain(state, self.number, &self.bytes[..self.have]);
+        self.number = self.number.saturating_add(1);
+        self.have = 0;
     }
-}
 
-fn after(number: u64) -> u64 {
-    if number < 0xffff_ffff_ffff_ffff {
-        return number + 1;
+    fn last(&mut self, state: &mut [u8]) {
+        if 0 < self.have {
+            self.ended(state);
+        }
     }
-    number
 }

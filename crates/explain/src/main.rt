@@ -6,23 +6,14 @@ mod faults;
 mod input;
 mod said;
 
-use input::Kept;
-
 fn main(rt: HostRuntime) {
-    let mut state = [0u8; 58543];
-    let mut line = [0u8; 16385];
+    let mut state = [0u8; engine::STATE];
+    let mut line = input::first();
     access::fresh(&mut state);
-    let mut kept = Kept {
-        number: 1,
-        have: 0,
-        more: true,
-    };
-    let mut turns: u64 = 0xffff_ffff_ffff_ffff;
-    while 0 < turns {
-        kept = input::read_some(rt.stdin(), &mut state, &mut line, kept);
-        if !kept.more {
+    // Nothing says that the input ends, so the turns are counted, up to a number that no run uses up.
+    for _ in 0..u64::MAX {
+        if !input::read_some(rt.stdin(), &mut state, &mut line) {
             return;
         }
-        turns -= 1;
     }
 }

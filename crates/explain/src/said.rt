@@ -9,9 +9,9 @@ use frame::Parsed;
 use pens::Pen;
 
 pub fn explain(state: &mut [u8], number: u64, line: &[u8]) {
-    let mut frame = [0u8; 8192];
+    let mut frame = [0u8; lines::MAX_FRAME];
     let n = lines::frame_of(line, &mut frame);
-    let bytes = part(&frame, 0, n);
+    let bytes = &frame[..n];
     if n == 0 {
         no_digits(number, line);
     } else {
@@ -48,19 +48,20 @@ fn input(number: u64, frame: &[u8]) {
 fn verdict(text: &mut [u8], number: u64, frame: &[u8]) -> Pen
     ensures { Ready text.new result }
 {
-    let parsed = frame::parse(frame);
-    match parsed {
+    match frame::parse(frame) {
         Parsed::NoFrame => head(text, number, b"no frame"),
-        Parsed::Frame(_input) => head(text, number, b"frame"),
+        Parsed::Frame(_) => head(text, number, b"frame"),
     }
 }
 
 fn answer(state: &mut [u8], number: u64, frame: &[u8]) {
-    let mut work = [0u8; 58543];
-    let mut out = [0u8; 32768];
+    let mut work = [0u8; engine::STATE];
+    let mut out = [0u8; frame::MAX_EFFECTS];
     let a = engine::step(state, &mut work, &mut out, frame);
     code(number, a.code);
-    say_effects(number, &out, a.length);
+    for bytes in words::effects_in(part(&out, 0, a.length)) {
+        effect(number, bytes);
+    }
 }
 
 fn code(number: u64, code: u8) {
@@ -68,18 +69,6 @@ fn code(number: u64, code: u8) {
     let start = head(&mut text, number, b"answer");
     let end = words::answer(start, &mut text, code);
     phrases::print_line(&mut text, end);
-}
-
-fn say_effects(number: u64, out: &[u8], length: usize) {
-    let mut at = 0;
-    while at < length {
-        let end = effects::effect_end(out, at);
-        if end <= at {
-            return;
-        }
-        effect(number, part(out, at, end));
-        at = end;
-    }
 }
 
 fn effect(number: u64, bytes: &[u8]) {

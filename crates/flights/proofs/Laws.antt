@@ -1,19 +1,17 @@
 -- The requests in flight: each law's premises are what the callees ensure. Assumes nothing.
+use Rattle.std.specs.Prelude.{Some, None, Ok, Err}
 use Prim.Native.Nat.{ℕ, zero, suc, ◌+◌, ◌*◌, ◌^◌, ◌≤◌, ◌<◌}
 use native.Mathlib.Omega.{arith}
 use mathlib.Core.Path.{◌≡◌, refl, sym, ap, ap₂, ◌∙◌, subst}
 use mathlib.Core.List.{List, [], ◌∷◌}
-use mathlib.Core.Option.{none, some}
 use mathlib.Core.Bool.{Bool, true, false, not, ◌||◌, or-false}
 use lib.ListN.{length, take, drop, get_or}
 use lib.Seq.{drop-drop, take_all, get_or-take, get_or-drop}
 use Rattle.format.specs.Format.{number, via, enum, ◌∣◌, nothing}
 use Rattle.format.specs.Format.{text as text-format}
 use Rattle.format.specs.Utf8.{is_text, chars}
-use Rattle.spans.specs.Bytes.{zeros}
 use Rattle.spans.specs.Compare.{order}
 use Rattle.tables.specs.Table.{Table, Sized, enc_table, text, place, keep_slots, keeps, against}
-use Rattle.tables.specs.declared.Place.TheVariants.{Found, Missing}
 use Rattle.tables.proofs.Laws as tables
 use Rattle.lent.specs.Lent.{part, placed}
 use Rattle.model.specs.Event.{Text}
@@ -28,14 +26,14 @@ use Rattle.model.proofs.Fitting.{any_same}
 use Rattle.state.specs.Layout.{padded, field, name_slot, number_key, flight_slot}
 use Rattle.state.specs.Setters.{with_in_flight}
 use Rattle.state.specs.Contract.{state_length, Keeps, HasState, Reads, Edits}
-use Rattle.state.specs.Values.{name_of, Named, purpose_of, kind_byte}
-use Rattle.state.specs.declared.Kind.{Kind}
-use Rattle.state.specs.declared.Kind.TheVariants as kind
+use Rattle.state.specs.Values.{NamedIn, purpose_in}
+use Rattle.state.specs.declared.Purpose.{Purpose as Asked}
+use Rattle.state.specs.declared.Purpose.TheVariants.{Refresh}
 use Rattle.state.proofs.Padded.{length_name, text_number_only}
 use Rattle.state.proofs.Columns as columns
 use Rattle.state.proofs.Ops as ops
 use Rattle.state.proofs.Bridge as bridge
-use Rattle.flights.specs.Asked.{purpose_in}
+use Rattle.flights.specs.Asked.{purpose_from}
 
 -- ---- the bytes of a purpose
 
@@ -66,36 +64,14 @@ name_bytes (Purpose.EditRead r) = ap (drop 1) (sym (ops.named_purpose 2 r))
 name_bytes (Purpose.EditWrite r) = ap (drop 1) (sym (ops.named_purpose 3 r))
 name_bytes (Purpose.Refresh r) = ap (drop 1) (sym (ops.named_purpose 4 r))
 
--- the kind of a byte
-abbrev kind_from : ℕ → Kind
-kind_from zero = kind.List
-kind_from (suc zero) = kind.PassRead
-kind_from (suc (suc zero)) = kind.EditRead
-kind_from (suc (suc (suc zero))) = kind.EditWrite
-kind_from (suc (suc (suc (suc n)))) = kind.Refresh
-
-from_byte : (k : Kind) → kind_from (kind_byte k) ≡ k
-from_byte kind.List = refl
-from_byte kind.PassRead = refl
-from_byte kind.EditRead = refl
-from_byte kind.EditWrite = refl
-from_byte kind.Refresh = refl
-
-five_kinds : (p : Purpose) → get_or (field 34 purpose_f p) 0 0 ≤ 4
-unfolding purpose_f via enum ◌∣◌ nothing padded
-five_kinds Purpose.List = omega arith
-five_kinds (Purpose.PassRead r) = omega arith
-five_kinds (Purpose.EditRead r) = omega arith
-five_kinds (Purpose.EditWrite r) = omega arith
-five_kinds (Purpose.Refresh r) = omega arith
-
-whole : (p : Purpose) → purpose_of (kind_from (get_or (field 34 purpose_f p) 0 0)) (name_in p) ≡ p
+-- the purpose that its bytes stand for
+whole : (p : Purpose) (b : List ℕ) → purpose_f.Ok p → b ≡ name_slot (name_in p) → (purpose_in (purpose_from (get_or (field 34 purpose_f p) 0 0) b) ≡ p) × NamedIn (purpose_from (get_or (field 34 purpose_f p) 0 0) b)
 unfolding name_in purpose_f via enum ◌∣◌ nothing padded
-whole Purpose.List = refl
-whole (Purpose.PassRead r) = refl
-whole (Purpose.EditRead r) = refl
-whole (Purpose.EditWrite r) = refl
-whole (Purpose.Refresh r) = refl
+whole Purpose.List b ok e = (refl, tt)
+whole (Purpose.PassRead r) b ok e = let n = ops.slot_named b r ok e in (ap Purpose.PassRead n.0, n.1)
+whole (Purpose.EditRead r) b ok e = let n = ops.slot_named b r ok e in (ap Purpose.EditRead n.0, n.1)
+whole (Purpose.EditWrite r) b ok e = let n = ops.slot_named b r ok e in (ap Purpose.EditWrite n.0, n.1)
+whole (Purpose.Refresh r) b ok e = let n = ops.slot_named b r ok e in (ap Purpose.Refresh n.0, n.1)
 
 drop_more : (n m : ℕ) (x : List ℕ) → drop (n + m) x ≡ drop m (drop n x)
 drop_more n m x = sym (drop-drop m n x)
@@ -105,52 +81,55 @@ pub first_is : (w : List ℕ) (p : ℕ) (e : RequestId × Purpose) → take 43 (
 first_is w p e h =
     sym (get_or-drop p w 9 0) ∙ sym (get_or-take 43 (drop p w) 9 0 (omega arith)) ∙ ap (λ (x : List ℕ). get_or x 9 0) h ∙ sym (get_or-drop 9 (flight_slot e) 0 0) ∙ ap (λ (x : List ℕ). get_or x 0 0) (ops.flight_value e)
 
-pub name_is : (w q : List ℕ) (p : ℕ) (e : RequestId × Purpose) → Fit e → take 43 (drop p w) ≡ flight_slot e → q ≡ take 33 (drop (p + 9 + 1) w) → q ≡ name_slot (name_in e.1)
-name_is w q p e ok h d =
+name_is : (w : List ℕ) (p : ℕ) (e : RequestId × Purpose) → Fit e → take 43 (drop p w) ≡ flight_slot e → take 33 (drop (p + 9 + 1) w) ≡ name_slot (name_in e.1)
+name_is w p e ok h =
     let n : p + 9 + 1 ≡ p + 10 = omega arith in
-    d ∙ ap (λ (j : ℕ). take 33 (drop j w)) n ∙ tables.field_of w 43 p 10 33 (omega arith) ∙ ap (λ (x : List ℕ). take 33 (drop 10 x)) h
+    ap (λ (j : ℕ). take 33 (drop j w)) n ∙ tables.field_of w 43 p 10 33 (omega arith) ∙ ap (λ (x : List ℕ). take 33 (drop 10 x)) h
     ∙ ap (take 33) (drop_more 9 1 (flight_slot e) ∙ ap (drop 1) (ops.flight_value e) ∙ name_bytes e.1)
     ∙ take_all 33 (name_slot (name_in e.1)) (omega (arith, length_name (name_in e.1) (name_ok e.1 ok.1)))
 
 -- what stands there, read
-asked : (w q : List ℕ) (p : ℕ) (k : Kind) (e : RequestId × Purpose) → Fit e → take 43 (drop p w) ≡ flight_slot e → (get_or w (p + 9) 0 ≤ 4 → kind_byte k ≡ get_or w (p + 9) 0) → q ≡ take 33 (drop (p + 9 + 1) w)
-    → (purpose_of k (name_of q) ≡ e.1) × Named q
-asked w q p k e ok h d f =
-    let n = ops.slot_named q (name_in e.1) (name_ok e.1 ok.1) (name_is w q p e ok h f) in
-    let b = first_is w p e h in
-    let l : get_or w (p + 9) 0 ≤ 4 = subst (λ (x : ℕ). x ≤ 4) (sym b) (five_kinds e.1) in
-    (ap₂ purpose_of (sym (from_byte k) ∙ ap kind_from (d l ∙ b)) n.0 ∙ whole e.1, n.1)
+pub asked : (w : List ℕ) (p : ℕ) (a : Asked) (e : RequestId × Purpose) → Fit e → take 43 (drop p w) ≡ flight_slot e → a ≡ purpose_from (get_or w (p + 9) 0) (take 33 (drop (p + 9 + 1) w))
+    → (purpose_in a ≡ e.1) × NamedIn a
+asked w p a e ok h d =
+    let n = whole e.1 (take 33 (drop (p + 9 + 1) w)) ok.1 (name_is w p e ok h) in
+    let f : a ≡ purpose_from (get_or (field 34 purpose_f e.1) 0 0) (take 33 (drop (p + 9 + 1) w)) = d ∙ ap (λ (x : ℕ). purpose_from x (take 33 (drop (p + 9 + 1) w))) (first_is w p e h) in
+    (ap purpose_in f ∙ n.0, subst NamedIn (sym f) n.1)
+
+-- the last kind of five
+pub refresh_from : (n : ℕ) (b : List ℕ) → (n ≡ 0 → ⊥) → (n ≡ 1 → ⊥) → (n ≡ 2 → ⊥) → (n ≡ 3 → ⊥) → Refresh (record { bytes = b }) ≡ purpose_from n b
+refresh_from zero b h i j k = absurd (h refl)
+refresh_from (suc zero) b h i j k = absurd (i refl)
+refresh_from (suc (suc zero)) b h i j k = absurd (j refl)
+refresh_from (suc (suc (suc zero))) b h i j k = absurd (k refl)
+refresh_from (suc (suc (suc (suc n)))) b h i j k = refl
 
 -- ---- by number
 
-pub found : (key w q : List ℕ) (n p : ℕ) (k : Kind) → n < 2 ^ 64 → key ≡ number_key n → HasState w
-    → ((t : Table) → Sized 43 t → part 55643 1033 w ≡ enc_table 1033 t → Found p ≡ place 43 key t 1)
-    → (get_or w (55643 + p + 9) 0 ≤ 4 → kind_byte k ≡ get_or w (55643 + p + 9) 0) → q ≡ take 33 (drop (55643 + p + 9 + 1) w)
-    → Reads (λ s. get by_number n s.in_flight) w (purpose_in true k q) × Named q
+pub found : (key w : List ℕ) (n p : ℕ) (a : Asked) → n < 2 ^ 64 → key ≡ number_key n → HasState w
+    → ((t : Table) → Sized 43 t → part 55643 1033 w ≡ enc_table 1033 t → Ok p ≡ place 43 key t 1)
+    → a ≡ purpose_from (get_or w (55643 + p + 9) 0) (take 33 (drop (55643 + p + 9 + 1) w))
+    → Reads (λ s. get by_number n s.in_flight) w (Some (purpose_in a)) × NamedIn a
 unfolding number
-found key w q n p k l d K g a b = (
+found key w n p a l d K g f = (
   record {
     is = λ s h.
         let H = columns.there ops.flight_column key w n p l (ap text d ∙ text_number_only n) s h g in
-        ap some (asked w q (55643 + p) k H.e H.fits H.bytes a b).0 ∙ sym H.got;
+        ap Some (asked w (55643 + p) a H.e H.fits H.bytes f).0 ∙ sym H.got;
   },
-  (let H = columns.there ops.flight_column key w n p l (ap text d ∙ text_number_only n) K.state K.keeps g in (asked w q (55643 + p) k H.e H.fits H.bytes a b).1),
+  (let H = columns.there ops.flight_column key w n p l (ap text d ∙ text_number_only n) K.state K.keeps g in (asked w (55643 + p) a H.e H.fits H.bytes f).1),
 )
 
-blank_named : Named (zeros 33)
-unfolding text-format is_text chars padded text
-blank_named = record { is = refl; ok = (omega arith, refl) }
-
 pub missing : (key w : List ℕ) (n p : ℕ) → n < 2 ^ 64 → key ≡ number_key n
-    → ((t : Table) → Sized 43 t → part 55643 1033 w ≡ enc_table 1033 t → Missing p ≡ place 43 key t 1)
-    → Reads (λ s. get by_number n s.in_flight) w none × Named (zeros 33)
+    → ((t : Table) → Sized 43 t → part 55643 1033 w ≡ enc_table 1033 t → Err p ≡ place 43 key t 1)
+    → Reads (λ s. get by_number n s.in_flight) w None
 unfolding number
-missing key w n p l d g = (record { is = λ s h. sym (columns.not_there ops.flight_column key w n p l (ap text d ∙ text_number_only n) s h g) }, blank_named)
+missing key w n p l d g = record { is = λ s h. sym (columns.not_there ops.flight_column key w n p l (ap text d ∙ text_number_only n) s h g) }
 
 pub found_room : (key w : List ℕ) (n p : ℕ) → n < 2 ^ 64 → key ≡ number_key n → HasState w
-    → ((t : Table) → Sized 43 t → part 55643 1033 w ≡ enc_table 1033 t → Found p ≡ place 43 key t 1) → 55643 + p + 43 ≤ state_length
+    → ((t : Table) → Sized 43 t → part 55643 1033 w ≡ enc_table 1033 t → Ok p ≡ place 43 key t 1) → 55643 + p + 43 ≤ length w
 unfolding number
-found_room key w n p l d K g = (columns.there ops.flight_column key w n p l (ap text d ∙ text_number_only n) K.state K.keeps g).room
+found_room key w n p l d K g = let m = K.keeps.long in omega (arith, (columns.there ops.flight_column key w n p l (ap text d ∙ text_number_only n) K.state K.keeps g).room)
 
 -- ---- entry i
 
@@ -177,7 +156,7 @@ first_byte : (e : RequestId × Purpose) → take 1 (drop 9 (flight_slot e)) ≡ 
 first_byte e = ap (take 1) (ops.flight_value e)
 
 pass_read_byte : (p : Purpose) → keeps false (order (take 1 (field 34 purpose_f p)) (1 ∷ [])) ≡ not (is_pass_read p)
-unfolding order is_pass_read purpose_f via enum ◌∣◌ nothing padded
+unfolding is_pass_read purpose_f via enum ◌∣◌ nothing padded
 pass_read_byte Purpose.List = refl
 pass_read_byte (Purpose.PassRead r) = refl
 pass_read_byte (Purpose.EditRead r) = refl
@@ -185,7 +164,7 @@ pass_read_byte (Purpose.EditWrite r) = refl
 pass_read_byte (Purpose.Refresh r) = refl
 
 of_pass_byte : (p : Purpose) → keeps true (order (take 1 (field 34 purpose_f p)) (1 ∷ [])) ≡ not (is_of_pass p)
-unfolding order is_of_pass purpose_f via enum ◌∣◌ nothing padded
+unfolding is_of_pass purpose_f via enum ◌∣◌ nothing padded
 of_pass_byte Purpose.List = refl
 of_pass_byte (Purpose.PassRead r) = refl
 of_pass_byte (Purpose.EditRead r) = refl
@@ -234,7 +213,7 @@ any_or p q (x ∷ l) = ap (λ (b : Bool). (p x || q x) || b) (any_or p q l) ∙ 
     swap false true false d = refl
     swap false false c d = refl
 
-abbrev Asks : (Text → Purpose) → Text → SyncState → Bool
+abbrev pub Asks : (Text → Purpose) → Text → SyncState → Bool
 Asks f r s = any (same purpose_f (f r)) (values s.in_flight)
 
 abbrev About : Text → SyncState → Bool
@@ -248,32 +227,18 @@ about_four r s =
     ∙ ap (λ (b : Bool). Asks Purpose.PassRead r s || b) (any_or (same purpose_f (Purpose.EditRead r)) (λ p. same purpose_f (Purpose.EditWrite r) p || same purpose_f (Purpose.Refresh r) p) l
     ∙ ap (λ (b : Bool). Asks Purpose.EditRead r s || b) (any_or (same purpose_f (Purpose.EditWrite r)) (same purpose_f (Purpose.Refresh r)) l))
 
-pub about_first : (r : Text) (w : List ℕ) (a : Bool) → Reads (Asks Purpose.PassRead r) w a → a ≡ true → Reads (About r) w true
-about_first r w a A x = record { is = λ s h. sym (about_four r s ∙ ap (λ (b : Bool). b || (Asks Purpose.EditRead r s || (Asks Purpose.EditWrite r s || Asks Purpose.Refresh r s))) (sym (A.is s h) ∙ x)) }
+-- `||` of two reads: the second is asked where the first is false
+module _ {f : SyncState → Bool} {w : List ℕ} {a v : Bool} (A : Reads f w a) where
+  pub first_asks : (g : SyncState → Bool) → a ≡ true → v ≡ a → Reads (λ s. f s || g s) w v
+  first_asks g x y = record { is = λ s h. y ∙ x ∙ sym (ap (λ (b : Bool). b || g s) (sym (A.is s h) ∙ x)) }
 
-pub about_second : (r : Text) (w : List ℕ) (a b : Bool) → Reads (Asks Purpose.PassRead r) w a → a ≡ false → Reads (Asks Purpose.EditRead r) w b → b ≡ true → Reads (About r) w true
-about_second r w a b A x B y = record {
-  is = λ s h. sym (about_four r s ∙ ap₂ (λ (c d : Bool). c || (d || (Asks Purpose.EditWrite r s || Asks Purpose.Refresh r s))) (sym (A.is s h) ∙ x) (sym (B.is s h) ∙ y));
-}
+  pub second_asks : {g : SyncState → Bool} {b : Bool} → a ≡ false → Reads g w b → v ≡ b → Reads (λ s. f s || g s) w v
+  second_asks {g} x B y = record { is = λ s h. y ∙ B.is s h ∙ sym (ap (λ (b : Bool). b || g s) (sym (A.is s h) ∙ x)) }
 
-pub about_third : (r : Text) (w : List ℕ) (a b c : Bool) → Reads (Asks Purpose.PassRead r) w a → a ≡ false → Reads (Asks Purpose.EditRead r) w b → b ≡ false → Reads (Asks Purpose.EditWrite r) w c → c ≡ true → Reads (About r) w true
-about_third r w a b c A x B y C z = record {
-  is = λ s h.
-      sym (about_four r s ∙ ap₂ (λ (c d : Bool). c || (d || (Asks Purpose.EditWrite r s || Asks Purpose.Refresh r s))) (sym (A.is s h) ∙ x) (sym (B.is s h) ∙ y)
-      ∙ ap (λ (d : Bool). d || Asks Purpose.Refresh r s) (sym (C.is s h) ∙ z));
-}
-
-pub about_last : (r : Text) (w : List ℕ) (a b c d : Bool) → Reads (Asks Purpose.PassRead r) w a → a ≡ false → Reads (Asks Purpose.EditRead r) w b → b ≡ false → Reads (Asks Purpose.EditWrite r) w c → c ≡ false
-    → Reads (Asks Purpose.Refresh r) w d → Reads (About r) w d
-about_last r w a b c d A x B y C z D = record {
-  is = λ s h.
-      D.is s h ∙ sym (about_four r s ∙ ap₂ (λ (c d : Bool). c || (d || (Asks Purpose.EditWrite r s || Asks Purpose.Refresh r s))) (sym (A.is s h) ∙ x) (sym (B.is s h) ∙ y)
-      ∙ ap (λ (d : Bool). d || Asks Purpose.Refresh r s) (sym (C.is s h) ∙ z));
-}
-
-pub kind_last : (n : ℕ) → (n ≡ 0 → ⊥) → (n ≡ 1 → ⊥) → (n ≡ 2 → ⊥) → (n ≡ 3 → ⊥) → n ≤ 4 → kind_byte kind.Refresh ≡ n
-kind_last zero a b c d l = absurd (a refl)
-kind_last (suc zero) a b c d l = absurd (b refl)
-kind_last (suc (suc zero)) a b c d l = absurd (c refl)
-kind_last (suc (suc (suc zero))) a b c d l = absurd (d refl)
-kind_last (suc (suc (suc (suc n)))) a b c d l = omega arith
+pub about_is_four : (r : Text) {w : List ℕ} {v : Bool} → Reads (λ s. ((Asks Purpose.PassRead r s || Asks Purpose.EditRead r s) || Asks Purpose.EditWrite r s) || Asks Purpose.Refresh r s) w v → Reads (About r) w v
+about_is_four r R = record { is = λ s h. R.is s h ∙ regroup (Asks Purpose.PassRead r s) (Asks Purpose.EditRead r s) (Asks Purpose.EditWrite r s) (Asks Purpose.Refresh r s) ∙ sym (about_four r s) }
+  where
+    regroup : (a b c d : Bool) → (((a || b) || c) || d) ≡ (a || (b || (c || d)))
+    regroup true b c d = refl
+    regroup false true c d = refl
+    regroup false false c d = refl

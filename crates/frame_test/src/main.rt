@@ -53,12 +53,11 @@ fn inputs() {
 }
 
 fn replies() {
-    let none: [u8; 0] = [];
     plain(
         b"listed",
         b"\x02\0\0\0\0\0\0\0\0\0\x02\x01\x01a\x01\x01a\x01\x01c",
     );
-    with_event(b"read", b"\x02\0\0\0\0\0\0\0\0\x01\x01", &none);
+    with_event(b"read", b"\x02\0\0\0\0\0\0\0\0\x01\x01", b"");
     plain(b"deleted", b"\x02\0\0\0\0\0\0\0\0\x03");
     plain(b"rejected", b"\x02\0\0\0\0\0\0\0\0\x04\x05\x02aa");
 }

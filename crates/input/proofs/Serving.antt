@@ -1,4 +1,6 @@
 -- Line after line: what is held is that after the lines that were handed out. Assumes nothing.
+use Rattle.std.specs.Prelude.{Some, None, length, take}
+use Rattle.std.proofs.lemmas.Bool.{true≢false}
 use Prim.Native.Nat.{ℕ, zero, suc, ◌+◌}
 use native.Mathlib.Omega.{arith}
 use mathlib.Core.Path.{◌≡◌, refl, sym, ap, ap₂, ◌∙◌}
@@ -6,6 +8,8 @@ use mathlib.Core.Bool.{Bool, true, false, not}
 use mathlib.Core.List.{List, [], ◌∷◌, ◌++◌, append-nil, append_assoc}
 use Rattle.input.specs.Input.{next_line, handed_out, Splits}
 use Rattle.input.specs.Served.{after_lines, Served}
+use Rattle.input.specs.Ready.{left_of, Hands}
+use Rattle.input.specs.declared.source.Lines.{Lines}
 use Rattle.input.proofs.Laws.{nothing_left}
 
 after_append : (after_line : List ℕ → List ℕ → List ℕ) (held : List ℕ) (lines : List (List ℕ)) (l : List ℕ) → after_lines after_line held (lines ++ (l ∷ [])) ≡ after_line (after_lines after_line held lines) l
@@ -69,13 +73,28 @@ module _ {after_line : List ℕ → List ℕ → List ℕ} {limit : ℕ} {held�
       let h : handed_out limit (R.calls + 1) (R.chunks ++ S.chunks) ≡ R.lines ++ (l ∷ []) = R.hands 1 S.chunks ∙ ap (λ (x : List (List ℕ)). R.lines ++ x) (handed_line limit 0 (left ∷ S.chunks) [] l S.is) in
       record { calls = R.calls + 1; chunks = R.chunks ++ S.chunks; is = held_is ∙ ap (after_lines after_line held₀) (sym h) }
 
-  -- a line was read and answered
-  pub served_line : (n : ℕ) → n ≡ limit → (whole ended : Bool) → not whole ≡ false → Splits n [] left whole ended l left' → Served after_line limit held₀ held'
-  served_line n k true true w S = served_last (rw k at S)
-  served_line n k true false w S = reading_served (reading_next (rw k at S))
-  served_line n k false ended w S = absurd (let z : ◌≡◌ {A = ℕ} 0 1 = cc in omega arith)
+-- ---- what is held while the lines are handed out, one after the other
 
-  pub reading_line : (n : ℕ) → n ≡ limit → (whole ended : Bool) → not whole ≡ false → ended ≡ false → Splits n [] left whole ended l left' → Reading after_line limit held₀ held' left'
-  reading_line n k true true w d S = absurd (let z : ◌≡◌ {A = ℕ} 0 1 = cc in omega arith)
-  reading_line n k true false w d S = reading_next (rw k at S)
-  reading_line n k false ended w d S = absurd (let z : ◌≡◌ {A = ℕ} 0 1 = cc in omega arith)
+pub record Serves (after_line : List ℕ → List ℕ → List ℕ) (limit : ℕ) (held₀ held : List ℕ) (lines : Lines) : Type 0 where
+  pub going : lines.ended ≡ false → Reading after_line limit held₀ held (left_of lines)
+  pub done : lines.ended ≡ true → Served after_line limit held₀ held
+
+pub serves_start : {after_line : List ℕ → List ℕ → List ℕ} (limit : ℕ) (held : List ℕ) (lines : Lines) → lines.ended ≡ false → left_of lines ≡ [] → Serves after_line limit held held lines
+serves_start limit held lines d e = record { going = λ _. reading_start limit held (left_of lines) e; done = λ t. absurd (true≢false (sym t ∙ d)) }
+
+pub serves_end : {after_line : List ℕ → List ℕ → List ℕ} {limit : ℕ} {held₀ held : List ℕ} (lines : Lines) → Serves after_line limit held₀ held lines → Served after_line limit held₀ held
+serves_end {after_line = after_line} {limit = limit} {held₀ = held₀} {held = held} lines S =
+    elim lines.ended as (λ b. lines.ended ≡ b → Served after_line limit held₀ held) [ true ↦ S.done | false ↦ λ e. reading_served (S.going e) ] refl
+
+-- a line was read and answered
+pub serves_line : {after_line : List ℕ → List ℕ → List ℕ} (limit : ℕ) (held₀ held held' line : List ℕ) (before after : Lines) (have : ℕ) → Serves after_line limit held₀ held before → limit ≡ length line
+    → Hands before after line (Some have) → held' ≡ after_line held (take have line) → Serves after_line limit held₀ held' after
+serves_line {after_line = after_line} limit held₀ held held' line before after have S k H e =
+    elim before.ended as (λ b. before.ended ≡ b → Serves after_line limit held₀ held' after) [ true ↦ λ d. cc (H.over d) | false ↦ λ d. go (H.splits d) (S.going d) after.ended refl ] refl
+  where
+    held_so : held' ≡ after_line held H.line
+    held_so = e ∙ ap (after_line held) (sym H.is.1)
+
+    go : Splits (length line) [] (left_of before) true after.ended H.line (left_of after) → Reading after_line limit held₀ held (left_of before) → (b : Bool) → after.ended ≡ b → Serves after_line limit held₀ held' after
+    go P R true b = record { going = λ t. absurd (true≢false (sym b ∙ t)); done = λ _. served_last H.line (left_of after) R held_so (rw (← k, b) at P) }
+    go P R false b = record { going = λ _. reading_next H.line (left_of after) R held_so (rw (← k, b) at P); done = λ t. absurd (true≢false (sym t ∙ b)) }

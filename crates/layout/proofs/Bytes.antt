@@ -1,9 +1,9 @@
 -- The regions of a state that fits, one after the other, are the model's bytes of it. Assumes nothing.
+use Rattle.std.specs.Prelude.{Option, Some, None}
 use Prim.Native.Nat.{ℕ, suc, ◌+◌, ◌-◌, ◌*◌}
 use native.Mathlib.Omega.{arith}
 use mathlib.Core.Path.{◌≡◌, refl, sym, ap, ap₂, ◌∙◌}
 use mathlib.Core.List.{List, [], ◌∷◌, ◌++◌, append_assoc, append-nil}
-use mathlib.Core.Option.{Option, none, some}
 use mathlib.Core.Bool.{Bool}
 use lib.ListN.{length, length-append, replicate-append-replicate}
 use Rattle.format.specs.Format.{Format, All, concat_map, ◌⊗◌, via, enum, nothing, ◌∣◌, option, bool, below, number, list, such, stamp}
@@ -193,10 +193,10 @@ module _ (limits : Limits) where
   pass_is : (o : Option Pass) → PassFits limits (pass_of o)
       → flat (field 1 bool (is_some o) ∷ pass_fields (pass_of o)) ≡ (format.padded (1 + pass_bytes limits) (option (pass_layout limits))).enc o
   unfolding is_some pass_of padded format.padded bool below option via enum ◌∣◌ nothing
-  pass_is none f =
+  pass_is None f =
       let k : 1 + pass_bytes limits - 1 ≡ pass_bytes limits = omega arith in
       ap (λ (l : List ℕ). 0 ∷ l) closed ∙ ap (λ (n : ℕ). 0 ∷ zeros n) (sym k)
-  pass_is (some p) f =
+  pass_is (Some p) f =
       let k : 1 + pass_bytes limits - suc (length ((pass_layout limits).enc p)) ≡ 0 = let e = fields_long p f in omega arith in
       ap (λ (l : List ℕ). 1 ∷ l) (fields_are p ∙ sym (append-nil ((pass_layout limits).enc p)))
       ∙ ap (λ (n : ℕ). 1 ∷ ((pass_layout limits).enc p ++ zeros n)) (sym k)

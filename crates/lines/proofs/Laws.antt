@@ -1,81 +1,68 @@
 -- Laws of digits, lines and of bytes put into a text. Assumes nothing.
-use Prim.Native.Nat.{ℕ, suc, ◌+◌, ◌*◌, ◌-◌, ◌/◌, ◌%◌, ◌≤◌, ◌<◌}
+use Rattle.std.specs.Prelude.{◌≢◌, Option, Some, None, MatchOption, unwrap_or, Bool, true, false, cond, leb}
+use Rattle.std.specs.List.{AllWithin, HoldsAt}
+use Rattle.std.proofs.lemmas.Iterator.{index_from_first}
+use Rattle.std.specs.Simd.{first_chunks}
+use Prim.Native.Nat.{ℕ, zero, suc, ◌+◌, ◌/◌, ◌%◌, ◌≤◌, ◌<◌}
 use native.Mathlib.Numerals.{add-one}
 use native.Mathlib.Omega.{arith}
 use mathlib.Core.Path.{◌≡◌, refl, sym, ap, ◌∙◌}
 use mathlib.Core.List.{List, [], ◌∷◌, ◌++◌, append_assoc, append-nil}
-use mathlib.Core.Option.{Option, none, some}
-use borrow.Author.Tests.{lt-ltb, le-ltb, le-leb, lt-leb, eq-eqb, ne_eqb}
-use lib.ListN.{length, take, drop, set, get_or, length-append, length-set, take-append-drop, drop_of_length-le}
-use lib.Seq.{take_all, length-take-le, take_at, drop_at, take-suc, drop-cons, drop-drop, take-suc-set, set_split, take-append-add}
-use Rattle.spans.proofs.Laws.{tail_mid, tail_put}
-use Rattle.lines.specs.Lines.{digit, digits, value, pair, before, undigits, held, frame_of, line_length, Puts}
-
--- ---- two digits
-
-module _ (a b high low : ℕ) (h : high ≡ value a) (l : low ≡ value b) where
-  pub pair_bad_high : 16 ≤ high → none ≡ pair a b
-  unfolding pair
-  pair_bad_high k = rw (← h, le-ltb high 16 k)
-
-  pub pair_bad_low : high < 16 → 16 ≤ low → none ≡ pair a b
-  unfolding pair
-  pair_bad_low k j = rw (← h, ← l, lt-ltb high 16 k, le-ltb low 16 j)
-
-  pub pair_byte : high < 16 → low < 16 → some (high * 16 + low) ≡ pair a b
-  unfolding pair
-  pair_byte k j = rw (← h, ← l, lt-ltb high 16 k, lt-ltb low 16 j)
+use borrow.Author.Tests.{le-leb, lt-leb, eq-eqb, ne_eqb}
+use lib.ListN.{length, take, drop, set, get_or, length-append, take-append-drop}
+use lib.Seq.{length-take-le, take_at, drop_at, take-suc, drop-drop, set_split}
+use Rattle.std.proofs.lemmas.List.{at_drop_more, at_drop_all}
+use Rattle.lines.specs.Lines.{digit, digits, pair, before, undigits, held, frame_of, line_length, Puts}
 
 -- ---- a frame is read, some of it done
 
-abbrev pub after : List ℕ → Option (List ℕ) → Option (List ℕ)
-after done (some s) = some (done ++ s)
-after done none = none
+-- the bytes of pairs of digits
+abbrev pub bytes_of : List (List ℕ) → Option (List ℕ)
+bytes_of [] = Some []
+bytes_of (p ∷ ps) = before (pair (get_or p 0 0) (get_or p 1 0)) (bytes_of ps)
+
+undigits_pairs : (k : ℕ) (line : List ℕ) → length line ≡ k + k → undigits line ≡ bytes_of (first_chunks 2 k line)
+unfolding undigits
+undigits_pairs zero [] h = refl
+undigits_pairs zero (a ∷ s) h = absurd (omega arith)
+undigits_pairs (suc k) [] h = absurd (omega arith)
+undigits_pairs (suc k) (a ∷ []) h = absurd (omega arith)
+undigits_pairs (suc k) (a ∷ b ∷ s) h = ap (before (pair a b)) (undigits_pairs k s (omega arith))
+
+undigits_odd : (k : ℕ) (line : List ℕ) → length line ≡ k + k + 1 → undigits line ≡ None
+unfolding undigits
+undigits_odd k [] h = absurd (omega arith)
+undigits_odd k (a ∷ []) h = refl
+undigits_odd zero (a ∷ b ∷ s) h = absurd (omega arith)
+undigits_odd (suc k) (a ∷ b ∷ s) h = elim (pair a b) as (λ o. before o (undigits s) ≡ None) [ None ↦ refl | Some x ↦ rw (undigits_odd k s (omega arith)) ]
 
 pub frame_long : (line : List ℕ) → 16384 < length line → [] ≡ frame_of line
 unfolding frame_of
 frame_long line h = rw (lt-leb (length line) 16384 h)
 
-after_none : (o : Option (List ℕ)) → after [] o ≡ o
-after_none none = refl
-after_none (some s) = refl
-
-pub frame_starts : (line frame : List ℕ) → length line ≤ 16384 → frame_of line ≡ held (after (take 0 frame) (undigits (drop 0 line)))
+pub frame_odd : (line : List ℕ) → 0 < length line % 2 → [] ≡ frame_of line
 unfolding frame_of
-frame_starts line frame h = rw (le-leb (length line) 16384 h) (ap held (sym (after_none (undigits line))))
+frame_odd line h = go (leb (length line) 16384)
+  where
+    go : (b : Bool) → [] ≡ cond b (held (undigits line)) []
+    go true = rw (undigits_odd (length line / 2) line (omega arith))
+    go false = refl
 
-after_before : (done : List ℕ) (b : ℕ) (o : Option (List ℕ)) → after done (before (some b) o) ≡ after (done ++ (b ∷ [])) o
-after_before done b none = refl
-after_before done b (some s) = ap some (sym (append_assoc done (b ∷ []) s))
+pub frame_even : (line : List ℕ) → length line ≤ 16384 → length line % 2 ≡ 0 → frame_of line ≡ held (bytes_of (first_chunks 2 (length line / 2) line))
+unfolding frame_of
+frame_even line h e = rw (le-leb (length line) 16384 h) (ap held (undigits_pairs (length line / 2) line (omega arith)))
 
-module _ (line frame : List ℕ) (i n : ℕ) where
-  two : i + 1 < length line → undigits (drop i line) ≡ before (pair (get_or line i 0) (get_or line (i + 1) 0)) (undigits (drop (i + 2) line))
-  unfolding undigits
-  two h =
-      let k : i < length line = omega arith in
-      let e : suc (suc i) ≡ i + 2 = omega arith in
-      let d : drop i line ≡ get_or line i 0 ∷ (get_or line (i + 1) 0 ∷ drop (i + 2) line) =
-      drop-cons line i 0 k ∙ ap (λ (t : List ℕ). get_or line i 0 ∷ t) (rw (add-one i, ← e) (drop-cons line (suc i) 0 (rw (← add-one i) h))) in
-      rw d
+-- some bytes, and then what else there is
+abbrev pub after : List ℕ → Option (List ℕ) → Option (List ℕ)
+after done (Some s) = Some (done ++ s)
+after done None = None
 
-  pub frame_more : (b : ℕ) → i + 1 < length line → n < length frame → some b ≡ pair (get_or line i 0) (get_or line (i + 1) 0)
-      → held (after (take n frame) (undigits (drop i line))) ≡ held (after (take (n + 1) (set frame n b)) (undigits (drop (i + 2) line)))
-  frame_more b h k e =
-      rw (two h, ← e, add-one n, take-suc-set frame n b k) (ap held (after_before (take n frame) b (undigits (drop (i + 2) line))))
+module _ (pairs : List (List ℕ)) (done : List ℕ) (n : ℕ) (h : bytes_of pairs ≡ after done (bytes_of (drop n pairs))) where
+  pub frame_bad : n < length pairs → None ≡ pair (get_or (get_or pairs n []) 0 0) (get_or (get_or pairs n []) 1 0) → [] ≡ held (bytes_of pairs)
+  frame_bad l e = rw (h, at_drop_more bytes_of pairs n [] l, ← e)
 
-  pub frame_bad : i + 1 < length line → none ≡ pair (get_or line i 0) (get_or line (i + 1) 0) → [] ≡ held (after (take n frame) (undigits (drop i line)))
-  frame_bad h e = rw (two h, ← e)
-
-  pub frame_odd : i < length line → length line ≤ i + 1 → [] ≡ held (after (take n frame) (undigits (drop i line)))
-  unfolding undigits
-  frame_odd h k =
-      let d : drop i line ≡ get_or line i 0 ∷ [] =
-      drop-cons line i 0 h ∙ ap (λ (t : List ℕ). get_or line i 0 ∷ t) (drop_of_length-le line {i = suc i} (rw (← add-one i) k)) in
-      rw d
-
-  pub frame_ends : length line ≤ i → take n frame ≡ held (after (take n frame) (undigits (drop i line)))
-  unfolding undigits
-  frame_ends h = rw (drop_of_length-le line {i = i} h, append-nil)
+  pub frame_ends : length pairs ≤ n → done ≡ held (bytes_of pairs)
+  frame_ends l = rw (h, at_drop_all bytes_of pairs n l) (sym (append-nil done))
 
 -- ---- bytes put into a text
 
@@ -122,14 +109,6 @@ length_digits (b ∷ s) = let h = length_digits s in omega arith
 pub digits_more : (s : List ℕ) (i : ℕ) → i < length s → digits (take (i + 1) s) ≡ digits (take i s) ++ digits (get_or s i 0 ∷ [])
 digits_more s i h = rw (add-one i, take-suc s i 0 h) (digits_append (take i s) (get_or s i 0 ∷ []))
 
-pub puts_pair : (text : List ℕ) (at b high low : ℕ) → at + 2 ≤ length text → high ≡ digit (b / 16) → low ≡ digit (b % 16)
-    → Puts (digits (b ∷ [])) text (set (set text at high) (at + 1) low) at (at + 2)
-unfolding digits
-puts_pair text at b high low h e f =
-    let k : at + 1 < length (set text at high) = simp length-set (omega arith) in
-    let n : at + 1 + 1 ≡ at + 2 = omega arith in
-    rw (← e, ← f, ← n) (puts_then (puts_byte text at high (omega arith)) (puts_byte (set text at high) (at + 1) low k) (omega arith))
-
 pub pair_place : (b : ℕ) {text after : List ℕ} {at next : ℕ} → Puts (digits (b ∷ [])) text after at next → next ≡ at + 2
 unfolding digits
 pair_place b P = P.place
@@ -144,9 +123,6 @@ puts_more s text mid after at i next end h r P Q =
     let l : length (digits (take i s)) ≡ i + i = rw (length_digits (take i s), length-take-le i s (omega arith)) in
     rw (digits_more s i h) (puts_then P Q (omega arith))
 
-pub puts_all : (s text after : List ℕ) (at i next : ℕ) → length s ≤ i → Puts (digits (take i s)) text after at next → Puts (digits s) text after at next
-puts_all s text after at i next h P = rw (take_all i s h) at P
-
 pub puts_line : (s text mid : List ℕ) (at next : ℕ) → at + (length s + length s) < length text → length mid ≡ length text → Puts (digits s) text mid at next
     → Puts (digits s ++ (10 ∷ [])) text (set mid next 10) at (next + 1)
 puts_line s text mid at next h e P =
@@ -154,47 +130,12 @@ puts_line s text mid at next h e P =
     let p = P.place in
     puts_then P (puts_byte mid next 10 (omega arith)) (omega arith)
 
--- a part lent from `at` on has come back as `back`
-pub puts_part : (text bytes back : List ℕ) (at : ℕ) → back ≡ bytes ++ drop (length bytes) (take (length text - at) (drop at text))
-    → Puts bytes text (take at text ++ (back ++ drop (length text - at) (drop at text))) at (at + length bytes)
-puts_part text bytes back at e = record {
-  place = refl;
-  is = tail_put text back at ∙ ap (λ (t : List ℕ). take at text ++ t)
-      (e ∙ ap (λ (t : List ℕ). bytes ++ drop (length bytes) t) (tail_mid text at) ∙ ap (λ (t : List ℕ). bytes ++ t) (drop-drop (length bytes) at text));
-}
-
 -- ---- a line's end
 
-module _ (s : List ℕ) (i : ℕ) where
-  pub line_stops : i < length s → get_or s i 0 ≡ 10 → line_length (drop i s) ≡ 0
-  unfolding line_length
-  line_stops h e = rw (drop-cons s i 0 h, eq-eqb (get_or s i 0) 10 e)
+-- where the first line feed stands, or that there is none
+abbrev pub Feed : List ℕ → Option ℕ → Type 0
+Feed s found = MatchOption found (AllWithin (λ b. b ≢ 10) s 0 (length s)) (λ i. (i < length s) × HoldsAt (λ b. b ≡ 10) s i × AllWithin (λ b. b ≢ 10) s 0 i)
 
-  pub line_goes_on : i < length s → (get_or s i 0 ≡ 10 → ⊥) → line_length (drop i s) ≡ suc (line_length (drop (i + 1) s))
-  unfolding line_length
-  line_goes_on h n = rw (add-one i, drop-cons s i 0 h, ne_eqb (get_or s i 0) 10 n)
-
-  pub line_ends : length s ≤ i → line_length (drop i s) ≡ 0
-  unfolding line_length
-  line_ends h = rw (drop_of_length-le s {i = i} h)
-
--- ---- a line that is kept
-
-pub cut_fits : (line part : List ℕ) (have : ℕ) → have ≤ length line → length line - have ≤ length part → have + length (take (length line - have) part) ≤ length line
-cut_fits line part have h k = let l = length-take-le (length line - have) part k in omega arith
-
-module _ (line part line' : List ℕ) (have next : ℕ) where
-  pub kept_whole : Puts part line line' have next → have + length part ≤ length line
-      → take next line' ≡ take (length line) (take have line ++ part)
-  kept_whole P h =
-      let l : length (take have line ++ part) ≤ length line = simp (length-append, length-take-le have line (omega arith)) (omega arith) in
-      puts_taken P h ∙ sym (take_all (length line) (take have line ++ part) l)
-
-  pub kept_cut : (cut : List ℕ) → cut ≡ take (length line - have) part → Puts cut line line' have next → have ≤ length line → length line - have ≤ length part
-      → take next line' ≡ take (length line) (take have line ++ part)
-  kept_cut cut e P h k =
-      let f : length cut ≡ length line - have = ap length e ∙ length-take-le (length line - have) part k in
-      let t : length (take have line) ≡ have = length-take-le have line h in
-      let n : length line ≡ length (take have line) + (length line - have) = omega arith in
-      puts_taken P (omega arith) ∙ ap (λ (x : List ℕ). take have line ++ x) e
-      ∙ sym (take-append-add (take have line) part (length line - have)) ∙ ap (λ (m : ℕ). take m (take have line ++ part)) (sym n)
+pub line_stops : (s : List ℕ) (found : Option ℕ) → Feed s found → line_length s ≡ unwrap_or found (length s)
+unfolding line_length
+line_stops = index_from_first line_length (λ b. b ≡ 10) (λ b. b ≢ 10) refl (λ b s e. rw (eq-eqb b 10 e)) (λ b s n. rw (ne_eqb b 10 n, add-one (line_length s)))

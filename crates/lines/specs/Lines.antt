@@ -1,6 +1,5 @@
 -- Lines of hexadecimal digits: the frame that a line holds, and the digits of bytes. A line is given without its line feed. Assumes nothing.
-use Rattle.std.specs.Prelude.{ℕ, suc, ◌+◌, ◌*◌, ◌-◌, ◌/◌, ◌%◌, ◌≡◌, cond, ◌&&◌, List, [], ◌∷◌, ◌++◌, length, take, drop, leb, ltb, eqb}
-use Rattle.std.proofs.Math.Option.{Option, none, some}
+use Rattle.std.specs.Prelude.{ℕ, suc, ◌+◌, ◌*◌, ◌-◌, ◌/◌, ◌%◌, ◌≡◌, cond, ◌&&◌, List, [], ◌∷◌, ◌++◌, length, take, drop, leb, ltb, eqb, nat_le, if◌then◌else◌, Option, Some, None, option_and_then, option_map}
 
 -- the digit of a number below 16: 0 to 9, a to f
 unfoldable pub digit : ℕ → ℕ
@@ -11,28 +10,28 @@ unfoldable pub digits : List ℕ → List ℕ
 digits [] = []
 digits (b ∷ s) = digit (b / 16) ∷ digit (b % 16) ∷ digits s
 
--- the number of a digit, 16 for any other byte
-unfoldable pub value : ℕ → ℕ
-value c = cond (ltb c 48) 16 (cond (leb c 57) (c - 48) (cond (ltb c 97) 16 (cond (leb c 102) (c - 87) 16)))
+-- the number of a digit
+unfoldable pub value : ℕ → Option ℕ
+value c = if nat_le 48 c && nat_le c 57 then Some (c - 48) else (if nat_le 97 c && nat_le c 102 then Some (c - 87) else None)
 
 -- the byte of two digits
 unfoldable pub pair : ℕ → ℕ → Option ℕ
-pair a b = cond (ltb (value a) 16 && ltb (value b) 16) (some (value a * 16 + value b)) none
+pair a b = option_and_then (λ high. option_map (λ low. high * 16 + low) (value b)) (value a)
 
 abbrev pub before : Option ℕ → Option (List ℕ) → Option (List ℕ)
-before (some b) (some s) = some (b ∷ s)
-before (some b) none = none
-before none t = none
+before (Some b) (Some s) = Some (b ∷ s)
+before (Some b) None = None
+before None t = None
 
 -- the bytes whose digits these are
 unfoldable pub undigits : List ℕ → Option (List ℕ)
-undigits [] = some []
-undigits (a ∷ []) = none
+undigits [] = Some []
+undigits (a ∷ []) = None
 undigits (a ∷ b ∷ s) = before (pair a b) (undigits s)
 
 abbrev pub held : Option (List ℕ) → List ℕ
-held (some s) = s
-held none = []
+held (Some s) = s
+held None = []
 
 -- the most digits of a line that holds a frame
 abbrev pub max_digits : ℕ

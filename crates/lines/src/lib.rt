@@ -1,9 +1,8 @@
 // Lines of hexadecimal digits: a frame is read from one, bytes are written as one, and input that comes in chunks is split into them.
 #![tactic(auto)]
 
-ghost use Rattle.std.specs.Prelude.{◌≡◌, [], ◌∷◌, ◌++◌, ◌+◌, ◌≤◌, ◌<◌, length, take, drop};
+ghost use Rattle.std.specs.Prelude.{◌≡◌, [], ◌∷◌, ◌++◌, ◌+◌, ◌≤◌, ◌<◌, length, take, drop, IfSome};
 ghost use Rattle.lines.specs.Lines.{digit, digits, value, pair, frame_of, line_length, max_frame, Puts};
-ghost use Rattle.lines.specs.Pairs.{meant_pair};
 
 // The most digits of a line that holds a frame.
 pub const MAX_DIGITS: usize = 16384;
@@ -16,48 +15,29 @@ pub const LINE: usize = 16385;
 
 pub const LINE_FEED: u8 = 10;
 
-const NO_DIGIT: u8 = 16;
-
 // ---- digits to bytes
 
-// The number of a digit, or NO_DIGIT.
-fn value(c: u8) -> u8
-    ensures { result ≡ value c }
+// The number of a digit.
+#[tactic(auto, unfolding(crate::specs::Lines::value))]
+fn value(c: u8) -> Option<u8>
+    ensures is { result ≡ value c }
+    ensures small { IfSome result (λ n. n < 16) }
 {
-    if c < b'0' {
-        return NO_DIGIT;
+    match c {
+        b'0'..=b'9' => Some(c - b'0'),
+        b'a'..=b'f' => Some(c - b'a' + 10),
+        _ => None,
     }
-    if c <= b'9' {
-        return c - b'0';
-    }
-    if c < b'a' {
-        return NO_DIGIT;
-    }
-    if c <= b'f' {
-        return c - (b'a' - 10);
-    }
-    NO_DIGIT
 }
 
-// What two digits stand for.
-#[derive(Clone, Copy)]
-enum Pair {
-    Byte(u8),
-    Bad,
-}
-
-fn byte_of(a: u8, b: u8) -> Pair
-    ensures { meant_pair result ≡ pair a b }
+// The byte of two digits.
+#[tactic(auto, unfolding(crate::specs::Lines::pair))]
+fn byte_of(a: u8, b: u8) -> Option<u8>
+    ensures { result ≡ pair a b }
 {
-    let high = value(a);
-    let low = value(b);
-    if NO_DIGIT <= high {
-        return Pair::Bad;
-    }
-    if NO_DIGIT <= low {
-        return Pair::Bad;
-    }
-    Pair::Byte(high * 16 + low)
+    let high = value(a)?;
+    let low = value(b)?;
+    Some(high * 16 + low)
 }
 
 // Writes the frame that the line holds, and answers its length: 0 where it holds none.
@@ -65,39 +45,31 @@ pub fn frame_of(line: &[u8], frame: &mut [u8]) -> usize
     requires { max_frame ≤ length frame.old }
     ensures { (result ≤ max_frame) × (take result frame.new ≡ frame_of line.now) }
 {
-    if MAX_DIGITS < line.len() {
+    let (pairs, odd) = line.as_chunks::<2>();
+    if MAX_DIGITS < line.len() || !odd.is_empty() {
         return 0;
     }
-    let mut i = 0;
-    let mut n = 0;
-    while i + 1 < line.len() {
-        let p = byte_of(line[i], line[i + 1]);
-        let Pair::Byte(b) = p else {
+    for (n, [a, b]) in pairs.iter().enumerate() {
+        let Some(byte) = byte_of(*a, *b) else {
             return 0;
         };
-        frame[n] = b;
-        n += 1;
-        i += 2;
+        frame[n] = byte;
     }
-    if i < line.len() {
-        return 0;
-    }
-    n
+    pairs.len()
 }
 
 // ---- bytes to digits
 
+#[tactic(auto, unfolding(crate::specs::Lines::digit))]
 fn digit(n: u8) -> u8
     requires { n < 16 }
     ensures { result ≡ digit n }
 {
-    if n < 10 {
-        return b'0' + n;
-    }
-    b'a' - 10 + n
+    if n < 10 { b'0' + n } else { b'a' - 10 + n }
 }
 
 // Writes the two digits of a byte at `at`.
+#[tactic(auto, unfolding(crate::specs::Lines::digits))]
 fn put_pair(text: &mut [u8], at: usize, b: u8) -> usize
     requires { at + 2 ≤ length text.old }
     ensures { Puts (digits (b ∷ [])) text.old text.new at result }
@@ -108,15 +80,14 @@ fn put_pair(text: &mut [u8], at: usize, b: u8) -> usize
 }
 
 // Writes the bytes' digits at `at`, and answers the place after them.
+#[tactic(auto, unfolding(crate::specs::Lines::digits))]
 pub fn put_digits(text: &mut [u8], at: usize, bytes: &[u8]) -> usize
     requires { at + (length bytes.now + length bytes.now) ≤ length text.old }
     ensures { Puts (digits bytes.now) text.old text.new at result }
 {
     let mut next = at;
-    let mut i = 0;
-    while i < bytes.len() {
-        next = put_pair(text, next, bytes[i]);
-        i += 1;
+    for b in bytes {
+        next = put_pair(text, next, *b);
     }
     next
 }
@@ -138,14 +109,11 @@ pub fn line_end(chunk: &[u8], at: usize) -> usize
     requires { at ≤ length chunk.now }
     ensures { (result ≤ length chunk.now) × (result ≡ at + line_length (drop at chunk.now)) }
 {
-    let mut end = at;
-    while end < chunk.len() {
-        if chunk[end] == LINE_FEED {
-            return end;
-        }
-        end += 1;
-    }
-    end
+    let rest = &chunk[at..];
+    at + rest
+        .iter()
+        .position(|b| *b == LINE_FEED)
+        .unwrap_or(rest.len())
 }
 
 // Writes the bytes at `at`, and answers the place after them.
@@ -153,7 +121,7 @@ fn put_part(text: &mut [u8], at: usize, bytes: &[u8]) -> usize
     requires { at + length bytes.now ≤ length text.old }
     ensures { Puts bytes.now text.old text.new at result }
 {
-    spans::copy_into(&mut text[at..], bytes);
+    text[at..at + bytes.len()].copy_from_slice(bytes);
     at + bytes.len()
 }
 
@@ -163,8 +131,5 @@ pub fn keep(line: &mut [u8], have: usize, part: &[u8]) -> usize
     ensures { (result ≤ length line.old) × (take result line.new ≡ take (length line.old) (take have line.old ++ part.now)) }
 {
     let room = line.len() - have;
-    if part.len() <= room {
-        return put_part(line, have, part);
-    }
-    put_part(line, have, &part[..room])
+    put_part(line, have, &part[..part.len().min(room)])
 }

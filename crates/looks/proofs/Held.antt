@@ -1,10 +1,10 @@
 -- The state that a buffer holds: what the reading functions answer is asked of it, and what is seen of it may stand in a frame. Assumes nothing.
+use Rattle.std.specs.Prelude.{Option, Some, None}
 use Prim.Native.Nat.{ℕ, ◌≤◌}
 use native.Mathlib.Omega.{arith}
 use mathlib.Core.Path.{◌≡◌, refl, ap, ◌∙◌}
 use mathlib.Core.Bool.{Bool, true, false}
 use mathlib.Core.List.{[], ◌∷◌}
-use mathlib.Core.Option.{Option, none, some}
 use lib.ListN.{length, length-append}
 use lib.Dec.{eqb}
 use borrow.Author.Tests.{eqb-false}
@@ -40,18 +40,18 @@ answer_is {A} {f = f} {missing = missing} {b = b} {code = code} {r = r} R m = go
   where
     go : (e : Bool) → eqb (length b) state_length ≡ e → (o : Option SyncState) → read_state document01 b ≡ o
         → ◌≡◌ {A = ℕ × A} (code, r) (when e then (match o none: (2, missing) some: (λ s. (0, f s))) else (1, missing)) → r ≡ f (match o none: new some: (λ s. s))
-    go true e none o h = ap (λ (p : ℕ × A). p.1) h ∙ m
-    go true e (some s) o h = ap (λ (p : ℕ × A). p.1) h
-    go false e none o h = ap (λ (p : ℕ × A). p.1) h ∙ m
-    go false e (some s) o h = absurd (eqb-false (length b) state_length e (keeps_of (is_read o)).long)
+    go true e None o h = ap (λ (p : ℕ × A). p.1) h ∙ m
+    go true e (Some s) o h = ap (λ (p : ℕ × A). p.1) h
+    go false e None o h = ap (λ (p : ℕ × A). p.1) h ∙ m
+    go false e (Some s) o h = absurd (eqb-false (length b) state_length e (keeps_of (is_read o)).long)
 
 held_well : (b : Bytes) → WellFormed document01 (held_state b)
 unfolding held_state match◌none:◌some:◌
 held_well b = go (read_state document01 b) refl
   where
     go : (o : Option SyncState) → read_state document01 b ≡ o → WellFormed document01 (match o none: new some: (λ s. s))
-    go none e = fresh_well_formed document01
-    go (some s) e = ((states_exact document01 b s).0 e).0
+    go None e = fresh_well_formed document01
+    go (Some s) e = ((states_exact document01 b s).0 e).0
 
 -- ---- what is seen may stand in a frame
 

@@ -1,10 +1,11 @@
 -- What the functions of this crate cite: each law's premises are what the callees ensure. Assumes nothing.
+use Rattle.std.specs.Prelude.{Option, Some, None}
+use Rattle.format.proofs.Options.{None-ne-Some, Some-injective}
 use Prim.Native.Nat.{ℕ, zero, suc, ◌+◌, ◌-◌, ◌/◌, ◌%◌, ◌≤◌, ◌<◌}
 use native.Mathlib.Omega.{arith}
 use mathlib.Core.Path.{◌≡◌, refl, sym, ap, ap₂, ◌∙◌}
 use mathlib.Core.Bool.{Bool, true, false, not}
 use mathlib.Core.List.{List, [], ◌∷◌, ◌++◌}
-use mathlib.Core.Option.{Option, none, some, none-ne-some, some-injective}
 use lib.ListN.{length, take, drop, set, length-drop, length-append, length-set, drop_of_length-le}
 use lib.Seq.{take_all, take-nil}
 use Rattle.format.specs.Format.{option, via, enum, ◌∣◌, nothing, ◌⊗◌, list, text, number}
@@ -66,7 +67,7 @@ module _ (x y x' y' text : Bytes) (at : ℕ) (e : x' ≡ x) (f : y' ≡ y) (room
 
 -- ---- the cursor
 
-module _ (b : Bytes) (code : ℕ) (found : Bool) (t : Text) (R : Answers (λ s. s.cursor) none b code (kept found t)) where
+module _ (b : Bytes) (code : ℕ) (found : Bool) (t : Text) (R : Answers (λ s. s.cursor) None b code (kept found t)) where
   cursor_held : kept found t ≡ (held_state b).cursor
   unfolding new
   cursor_held = answer_is R refl
@@ -83,28 +84,28 @@ module _ (b : Bytes) (code : ℕ) (found : Bool) (t : Text) (R : Answers (λ s. 
   unfolding seen_f seen ◌⊗◌ option via enum ◌∣◌ text max_text
   cursor_short e = go (held_state b).cursor (sym (cursor_held) ∙ ap (λ (f : Bool). kept f t) e) (seen_ok b).0
     where
-      go : (c : Option Text) → c ≡ some t → (option short_text).Ok c → length t ≤ 255
-      go none h ok = absurd (none-ne-some t h)
-      go (some u) h ok = let l : length u ≤ 32 = ok.0 in let m = ap length (some-injective u t h) in omega arith
+      go : (c : Option Text) → c ≡ Some t → (option short_text).Ok c → length t ≤ 255
+      go None h ok = absurd (None-ne-Some t h)
+      go (Some u) h ok = let l : length u ≤ 32 = ok.0 in let m = ap length (Some-injective u t h) in omega arith
 
 -- ---- the records
 
-module _ (b : Bytes) (i code : ℕ) (found : Bool) (n e : Bytes) (R : Answers (λ s. record_bytes (nth i s.records)) none b code (kept found (n, e))) where
+module _ (b : Bytes) (i code : ℕ) (found : Bool) (n e : Bytes) (R : Answers (λ s. record_bytes (nth i s.records)) None b code (kept found (n, e))) where
   record_held : kept found (n, e) ≡ record_bytes (nth i (held_state b).records)
   unfolding new nth record_bytes
   record_held = answer_is R refl
 
-  pub no_record : found ≡ false → nth i (held_state b).records ≡ none
+  pub no_record : found ≡ false → nth i (held_state b).records ≡ None
   unfolding record_bytes
   no_record h = go (nth i (held_state b).records) (ap (λ (f : Bool). kept f (n, e)) (sym h) ∙ record_held)
     where
-      go : (o : Option (ResourceId × ProviderEvent)) → none ≡ record_bytes o → o ≡ none
-      go none k = refl
-      go (some x) k = absurd (none-ne-some _ k)
+      go : (o : Option (ResourceId × ProviderEvent)) → None ≡ record_bytes o → o ≡ None
+      go None k = refl
+      go (Some x) k = absurd (None-ne-Some _ k)
 
   record RecordAt (o : Option (ResourceId × ProviderEvent)) : Type 0 where
     x : ResourceId × ProviderEvent
-    is : o ≡ some x
+    is : o ≡ Some x
     name : n ≡ x.0
     event : e ≡ event_f.enc x.1
 
@@ -112,10 +113,10 @@ module _ (b : Bytes) (i code : ℕ) (found : Bool) (n e : Bytes) (R : Answers (�
   unfolding record_bytes
   record_there h = go (nth i (held_state b).records) (ap (λ (f : Bool). kept f (n, e)) (sym h) ∙ record_held)
     where
-      go : (o : Option (ResourceId × ProviderEvent)) → some (n, e) ≡ record_bytes o → RecordAt o
-      go none k = absurd (none-ne-some (n, e) (sym k))
-      go (some x) k =
-          let p : ◌≡◌ {A = Bytes × Bytes} (n, e) (x.0, event_f.enc x.1) = some-injective (n, e) (x.0, event_f.enc x.1) k in
+      go : (o : Option (ResourceId × ProviderEvent)) → Some (n, e) ≡ record_bytes o → RecordAt o
+      go None k = absurd (None-ne-Some (n, e) (sym k))
+      go (Some x) k =
+          let p : ◌≡◌ {A = Bytes × Bytes} (n, e) (x.0, event_f.enc x.1) = Some-injective (n, e) (x.0, event_f.enc x.1) k in
           record { x = x; is = refl; name = ap (λ (q : Bytes × Bytes). q.0) p; event = ap (λ (q : Bytes × Bytes). q.1) p }
 
   pub some_record : found ≡ true → There record_f.enc (nth i (held_state b).records) (texted n ++ e)
@@ -149,21 +150,21 @@ module _ (b : Bytes) (i code : ℕ) (found : Bool) (n : ℕ) (R : Answers (λ s.
   unfolding new nth numbered keys map
   flight_held = answer_is R refl
 
-  pub no_flight : found ≡ false → nth i (keys (held_state b).in_flight) ≡ none
+  pub no_flight : found ≡ false → nth i (keys (held_state b).in_flight) ≡ None
   unfolding numbered
   no_flight h = go (nth i (keys (held_state b).in_flight)) (sym h ∙ ap (λ (p : Bool × ℕ). p.0) flight_held)
     where
-      go : (o : Option ℕ) → false ≡ (numbered o).0 → o ≡ none
-      go none k = refl
-      go (some x) k = absurd (false_true k)
+      go : (o : Option ℕ) → false ≡ (numbered o).0 → o ≡ None
+      go None k = refl
+      go (Some x) k = absurd (false_true k)
 
   pub some_flight : found ≡ true → There u64.enc (nth i (keys (held_state b).in_flight)) (u64.enc n)
   unfolding numbered
   some_flight h = go (nth i (keys (held_state b).in_flight)) (sym h ∙ ap (λ (p : Bool × ℕ). p.0) flight_held) (ap (λ (p : Bool × ℕ). p.1) flight_held)
     where
       go : (o : Option ℕ) → true ≡ (numbered o).0 → n ≡ (numbered o).1 → There u64.enc o (u64.enc n)
-      go none k e = absurd (false_true (sym k))
-      go (some x) k e = record { x = x; is = refl; shown = ap u64.enc e }
+      go None k e = absurd (false_true (sym k))
+      go (Some x) k e = record { x = x; is = refl; shown = ap u64.enc e }
 
 pub few_flights : (b : Bytes) → length (keys (held_state b).in_flight) ≤ 255
 unfolding seen_f seen ◌⊗◌ list document01
@@ -175,34 +176,34 @@ pub one_byte : (n : ℕ) → n % 256 ∷ [] ≡ (number 1).enc n
 unfolding number
 one_byte n = let e : n % 256 ≡ n / 1 % 256 = omega arith in ap (λ (x : ℕ). x ∷ []) e
 
-nth_map : {A B : Type 0} (f : A → B) (i : ℕ) (l : List A) {x : A} → nth i l ≡ some x → nth i (map f l) ≡ some (f x)
+nth_map : {A B : Type 0} (f : A → B) (i : ℕ) (l : List A) {x : A} → nth i l ≡ Some x → nth i (map f l) ≡ Some (f x)
 unfolding nth map
-nth_map f i [] {x} e = absurd (none-ne-some x e)
-nth_map f zero (y ∷ l) {x} e = ap (λ (z : _). some (f z)) (some-injective y x e)
+nth_map f i [] {x} e = absurd (None-ne-Some x e)
+nth_map f zero (y ∷ l) {x} e = ap (λ (z : _). Some (f z)) (Some-injective y x e)
 nth_map f (suc i) (y ∷ l) e = nth_map f i l e
 
-nth_map_none : {A B : Type 0} (f : A → B) (i : ℕ) (l : List A) → nth i l ≡ none → nth i (map f l) ≡ none
+nth_map_none : {A B : Type 0} (f : A → B) (i : ℕ) (l : List A) → nth i l ≡ None → nth i (map f l) ≡ None
 unfolding nth map
 nth_map_none f i [] e = refl
-nth_map_none f zero (y ∷ l) e = absurd (none-ne-some y (sym e))
+nth_map_none f zero (y ∷ l) e = absurd (None-ne-Some y (sym e))
 nth_map_none f (suc i) (y ∷ l) e = nth_map_none f i l e
 
-module _ (b : Bytes) (i code : ℕ) (found : Bool) (n : Bytes) (c : ℕ) (R : Answers (λ s. queue_count (nth i s.edits)) none b code (kept found (n, c))) where
+module _ (b : Bytes) (i code : ℕ) (found : Bool) (n : Bytes) (c : ℕ) (R : Answers (λ s. queue_count (nth i s.edits)) None b code (kept found (n, c))) where
   queue_held : kept found (n, c) ≡ queue_count (nth i (held_state b).edits)
   unfolding new nth queue_count
   queue_held = answer_is R refl
 
-  pub no_queue : found ≡ false → nth i (map counted (held_state b).edits) ≡ none
+  pub no_queue : found ≡ false → nth i (map counted (held_state b).edits) ≡ None
   unfolding queue_count
   no_queue h = nth_map_none counted i (held_state b).edits (go (nth i (held_state b).edits) (ap (λ (f : Bool). kept f (n, c)) (sym h) ∙ queue_held))
     where
-      go : (o : Option (ResourceId × Queue)) → none ≡ queue_count o → o ≡ none
-      go none k = refl
-      go (some x) k = absurd (none-ne-some _ k)
+      go : (o : Option (ResourceId × Queue)) → None ≡ queue_count o → o ≡ None
+      go None k = refl
+      go (Some x) k = absurd (None-ne-Some _ k)
 
   record QueueAt (o : Option (ResourceId × Queue)) : Type 0 where
     x : ResourceId × Queue
-    is : o ≡ some x
+    is : o ≡ Some x
     name : n ≡ x.0
     count : c ≡ length x.1
 
@@ -210,10 +211,10 @@ module _ (b : Bytes) (i code : ℕ) (found : Bool) (n : Bytes) (c : ℕ) (R : An
   unfolding queue_count
   queue_there h = go (nth i (held_state b).edits) (ap (λ (f : Bool). kept f (n, c)) (sym h) ∙ queue_held)
     where
-      go : (o : Option (ResourceId × Queue)) → some (n, c) ≡ queue_count o → QueueAt o
-      go none k = absurd (none-ne-some (n, c) (sym k))
-      go (some x) k =
-          let p : ◌≡◌ {A = Bytes × ℕ} (n, c) (x.0, length x.1) = some-injective (n, c) (x.0, length x.1) k in
+      go : (o : Option (ResourceId × Queue)) → Some (n, c) ≡ queue_count o → QueueAt o
+      go None k = absurd (None-ne-Some (n, c) (sym k))
+      go (Some x) k =
+          let p : ◌≡◌ {A = Bytes × ℕ} (n, c) (x.0, length x.1) = Some-injective (n, c) (x.0, length x.1) k in
           record { x = x; is = refl; name = ap (λ (q : Bytes × ℕ). q.0) p; count = ap (λ (q : Bytes × ℕ). q.1) p }
 
   pub some_queue : found ≡ true → There queue_f.enc (nth i (map counted (held_state b).edits)) (texted n ++ (number 1).enc c)

@@ -1,9 +1,10 @@
 -- A list is shown entry by entry, and its count before it at the end. Assumes nothing.
+use Rattle.std.specs.Prelude.{Option, Some, None}
+use Rattle.format.proofs.Options.{None-ne-Some, Some-injective}
 use Prim.Native.Nat.{ℕ, zero, suc, ◌+◌, ◌≤◌, ◌<◌}
 use native.Mathlib.Omega.{arith}
 use mathlib.Core.Path.{◌≡◌, refl, sym, ap, ap₂, ◌∙◌, subst}
 use mathlib.Core.List.{List, [], ◌∷◌, ◌++◌, append-nil, append_assoc}
-use mathlib.Core.Option.{Option, none, some, none-ne-some, some-injective}
 use lib.ListN.{length, take, drop, length-append}
 use lib.Seq.{drop_at, take-append-le, take-take, length-take-le}
 use Rattle.format.specs.Format.{All, concat_map}
@@ -44,10 +45,10 @@ unfolding nth
 nth_behind [] ys = refl
 nth_behind (x ∷ xs) ys = nth_behind xs ys
 
-pub all_nth : {A : Type 0} (P : A → Type 0) (i : ℕ) (xs : List A) {x : A} → All P xs → nth i xs ≡ some x → P x
+pub all_nth : {A : Type 0} (P : A → Type 0) (i : ℕ) (xs : List A) {x : A} → All P xs → nth i xs ≡ Some x → P x
 unfolding nth
-all_nth P i [] {x} a e = absurd (none-ne-some x e)
-all_nth P zero (y ∷ xs) {x} a e = subst P (some-injective y x e) a.0
+all_nth P i [] {x} a e = absurd (None-ne-Some x e)
+all_nth P zero (y ∷ xs) {x} a e = subst P (Some-injective y x e) a.0
 all_nth P (suc i) (y ∷ xs) a e = all_nth P i xs a.1 e
 
 -- the first entries are shown, behind the place of the count
@@ -65,7 +66,7 @@ going_start f xs text at = record { done = []; rest = xs; split = refl; number =
 -- there is an entry, and these are its bytes
 pub record There {A : Type 0} (f : A → Bytes) (o : Option A) (bytes : Bytes) : Type 0 where
   pub x : A
-  pub is : o ≡ some x
+  pub is : o ≡ Some x
   pub shown : bytes ≡ f x
 
 module _ {A : Type 0} {f : A → Bytes} {xs : List A} {text text' : Bytes} {at next count : ℕ} (G : Going f xs text text' at next count)
@@ -96,9 +97,9 @@ module _ {A : Type 0} {f : A → Bytes} {xs : List A} {text text' : Bytes} {at n
     unfolding nth
     first = go G.rest refl (sym here ∙ T.is)
       where
-        go : (l : List A) → G.rest ≡ l → nth 0 l ≡ some T.x → Split
-        go [] e h = absurd (none-ne-some T.x h)
-        go (y ∷ l) e h = record { tail = l; is = e ∙ ap (λ (z : A). z ∷ l) (some-injective y T.x h) }
+        go : (l : List A) → G.rest ≡ l → nth 0 l ≡ Some T.x → Split
+        go [] e h = absurd (None-ne-Some T.x h)
+        go (y ∷ l) e h = record { tail = l; is = e ∙ ap (λ (z : A). z ∷ l) (Some-injective y T.x h) }
 
     rest_long : length (concat_map f G.rest) ≡ length bytes + length (concat_map f first.tail)
     rest_long = ap (λ (l : List A). length (concat_map f l)) first.is ∙ length-append (f T.x) (concat_map f first.tail) ∙ ap (λ (b : Bytes). length b + length (concat_map f first.tail)) (sym T.shown)
@@ -132,11 +133,11 @@ module _ {A : Type 0} {f : A → Bytes} {xs : List A} {text text' : Bytes} {at n
 
   -- ---- the entries end
 
-  pub going_end : nth count xs ≡ none → {text'' : Bytes} {start : ℕ} → Shows (count ∷ []) text' text'' at start → Shows (length xs ∷ concat_map f xs) text text'' at next
+  pub going_end : nth count xs ≡ None → {text'' : Bytes} {start : ℕ} → Shows (count ∷ []) text' text'' at start → Shows (length xs ∷ concat_map f xs) text text'' at next
   unfolding nth
   going_end h {text'' = text''} {start = start} P = go G.rest refl (sym here ∙ h)
     where
-      go : (l : List A) → G.rest ≡ l → nth 0 l ≡ none → Shows (length xs ∷ concat_map f xs) text text'' at next
+      go : (l : List A) → G.rest ≡ l → nth 0 l ≡ None → Shows (length xs ∷ concat_map f xs) text text'' at next
       go [] e h =
           let d : xs ≡ G.done = G.split ∙ ap (λ (l : List A). G.done ++ l) e ∙ append-nil G.done in
           let n : length xs ≡ count = ap length d ∙ sym G.number in
@@ -144,4 +145,4 @@ module _ {A : Type 0} {f : A → Bytes} {xs : List A} {text text' : Bytes} {at n
           let l : at + (suc (length (concat_map f xs)) + suc (length (concat_map f xs))) ≤ length text = room in
           let q : Puts (digits (count ∷ []) ++ digits (concat_map f G.done)) text text'' at next = before G.shows (rw s at P) (omega arith) in
           rw (n, d) (rw (digits_append (count ∷ []) (concat_map f G.done)) q)
-      go (y ∷ l) e h = absurd (none-ne-some y (sym h))
+      go (y ∷ l) e h = absurd (None-ne-Some y (sym h))

@@ -1,6 +1,5 @@
 -- What can be read of a state, and the line that shows it. Assumes nothing.
-use Rattle.std.specs.Prelude.{ℕ, ◌+◌, ◌*◌, List, [], ◌∷◌, ◌++◌, length}
-use Rattle.std.proofs.Math.Option.{Option}
+use Rattle.std.specs.Prelude.{ℕ, ◌+◌, ◌*◌, List, [], ◌∷◌, ◌++◌, length, Option}
 use Rattle.format.specs.Format.{Format, ◌⊗◌, option, list, number}
 use Rattle.lines.specs.Lines.{digits}
 use Rattle.model.specs.Event.{Text, ProviderEvent}

@@ -98,9 +98,7 @@ fn put_number(text: &mut [u8], at: usize, n: u64) -> usize
     requires { Room (u64.enc n) text.old at }
     ensures { Shows (u64.enc n) text.old text.new at result }
 {
-    let mut bytes = [0u8; 8];
-    numbers::write_be(&mut bytes, n);
-    lines::put_digits(text, at, &bytes)
+    lines::put_digits(text, at, &numbers::to_be(n))
 }
 
 fn put_flights(state: &[u8], text: &mut [u8], at: usize) -> usize

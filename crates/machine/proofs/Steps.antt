@@ -1,9 +1,9 @@
 -- Effects and inserts: what one of them does to the machine. Assumes nothing.
+use Rattle.std.specs.Prelude.{Option, Some, None}
 use Prim.Native.Nat.{ℕ, ◌+◌, ◌-◌, ◌^◌, ◌≤◌, ◌<◌}
 use native.Mathlib.Omega.{arith}
 use mathlib.Core.Path.{◌≡◌, refl, sym, ap, ◌∙◌, subst}
 use mathlib.Core.List.{List}
-use mathlib.Core.Option.{Option, none, some}
 use mathlib.Core.Bool.{Bool, true, false, cond, ◌||◌}
 use lib.ListN.{length, take, drop}
 use lib.Dec.{leb, ltb, eqb}
@@ -144,11 +144,11 @@ by_learned {a = a} {o} id r v R e L k = record {
       ∙ ap (λ (x : Option ℕ). ltb id s.learned_all || is_some_and (λ since. ltb id since) x) (L.is s h);
 }
 
-pub never : (id : ℕ) {o : Option ℕ} → o ≡ none → false ≡ is_some_and (λ since. ltb id since) o
+pub never : (id : ℕ) {o : Option ℕ} → o ≡ None → false ≡ is_some_and (λ since. ltb id since) o
 unfolding is_some_and
 never id e = rw e
 
-pub since : (id n : ℕ) {o : Option ℕ} → o ≡ some n → ltb id n ≡ is_some_and (λ since. ltb id since) o
+pub since : (id n : ℕ) {o : Option ℕ} → o ≡ Some n → ltb id n ≡ is_some_and (λ since. ltb id since) o
 unfolding is_some_and
 since id n e = rw e
 

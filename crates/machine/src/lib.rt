@@ -11,14 +11,14 @@ ghost use Rattle.model.specs.Machine.{request};
 ghost use Rattle.model.specs.Sync.{learn, describe};
 ghost use Rattle.frame.specs.Meaning.{meant_outcome};
 ghost use Rattle.state.specs.Contract.{HasState, Reads};
-ghost use Rattle.state.specs.Values.{name_of, Named, purpose_of};
+ghost use Rattle.state.specs.Values.{name_of, Named, NamedIn, purpose_in};
 ghost use Rattle.machine.specs.Contract.{Does, Changes, Pushes};
 ghost use Rattle.machine.specs.Steps.{pen_of, refusal, unless, sent_by, tried_by, reserve};
 
 use frame::Outcome;
 use names::Name;
 use pens::Pen;
-use state::{Kind, Numbered};
+use state::Purpose;
 
 // How far a step has come: 0 or its refusal, and where the next effect goes.
 #[derive(Clone, Copy)]
@@ -122,17 +122,17 @@ pub fn tell_remapped(out: &mut [u8], p: Progress, from: Name, to: Name) -> Progr
 // Requests
 
 // `request` up to its last line: a number, and its place among those in flight.
-pub fn reserve(work: &mut [u8], p: Progress, kind: Kind, name: Name) -> Progress
+pub fn reserve(work: &mut [u8], p: Progress, purpose: Purpose) -> Progress
     requires has_state { HasState work.old }
-    requires named { Named name.bytes }
-    ensures { Changes (reserve (purpose_of kind (name_of name.bytes))) work.old p result work.new }
+    requires named { NamedIn purpose }
+    ensures { Changes (reserve (purpose_in purpose)) work.old p result work.new }
 {
     let id = state::next_request(work);
     if id == 0xffff_ffff_ffff_ffff {
         return refuse(p, 4);
     }
     state::set_next_request(work, id + 1);
-    let within = state::add_in_flight(work, id, kind, name);
+    let within = state::add_in_flight(work, id, purpose);
     tried(p, within)
 }
 
@@ -140,15 +140,15 @@ pub fn request_read(
     work: &mut [u8],
     out: &mut [u8],
     p: Progress,
-    kind: Kind,
+    purpose: Purpose,
     name: Name,
 ) -> Progress
     requires has_state { HasState work.old }
-    requires named { Named name.bytes }
-    ensures { Does (request (purpose_of kind (name_of name.bytes)) (Request.Read (name_of name.bytes))) work.old out.old p result work.new out.new }
+    requires named { (NamedIn purpose) × (Named name.bytes) }
+    ensures { Does (request (purpose_in purpose) (Request.Read (name_of name.bytes))) work.old out.old p result work.new out.new }
 {
     let id = state::next_request(work);
-    let q = reserve(work, p, kind, name);
+    let q = reserve(work, p, purpose);
     let key = name.bytes;
     let pen = effects::read(pen_of(q), out, id, text_of(&key));
     sent(q, pen)
@@ -177,13 +177,8 @@ pub fn doubtful(work: &[u8], id: u64, name: Name) -> bool
     if id < state::learned_all(work) {
         return true;
     }
-    let since = state::learned(work, name);
-    match since {
-        Numbered::Nothing => {
-            return false;
-        }
-        Numbered::Is(n) => {
-            return id < n;
-        }
+    match state::learned(work, name) {
+        None => false,
+        Some(n) => id < n,
     }
 }

@@ -1,11 +1,11 @@
 -- The entries of an attendee list at the front of bytes: which bytes are an entry, its address, and the entry that is found.
 -- Assumes nothing.
+use Rattle.std.specs.Prelude.{Option, Some, None}
 use Prim.Native.Nat.{ℕ, suc, ◌+◌, ◌-◌, ◌≤◌, ◌<◌}
 use native.Mathlib.Omega.{arith}
 use native.Mathlib.Numerals.{add-one}
 use mathlib.Core.Path.{◌≡◌, refl, ap, ◌∙◌}
 use mathlib.Core.List.{List, [], ◌∷◌, ◌++◌, append_assoc}
-use mathlib.Core.Option.{Option, none, some}
 use mathlib.Core.Bool.{Bool, true, false, cond, ◌&&◌}
 use lib.Dec.{eqb}
 use lib.ListN.{length, drop}
@@ -26,8 +26,8 @@ use Rattle.merge.proofs.Stood.{Stood, next_is, next_drop, span_is, counted}
 
 -- the entry of a folded address and an occurrence
 abbrev pub nth_in : Text → ℕ → List Attendee → Option Attendee
-nth_in w n [] = none
-nth_in w n (a ∷ l) = cond (same_text (to_ascii_lowercase a.address) w && eqb n 0) (some a) (nth_in w (n - one_if (same_text (to_ascii_lowercase a.address) w)) l)
+nth_in w n [] = None
+nth_in w n (a ∷ l) = cond (same_text (to_ascii_lowercase a.address) w && eqb n 0) (Some a) (nth_in w (n - one_if (same_text (to_ascii_lowercase a.address) w)) l)
 
 -- the entries from the i-th on are those of l
 pub record From (s : List ℕ) (i : ℕ) (l : List Attendee) : Type 0 where
@@ -103,7 +103,7 @@ find_from_lem s w (a ∷ l) left i R e =
     hit = same_text (to_ascii_lowercase a.address) (to_ascii_lowercase w)
 
     go : (b : Bool) → find_from s w (left - one_if hit) (i + 1) (length l) ≡ entry_enc (nth_in (to_ascii_lowercase w) (left - one_if hit) l)
-        → cond b (attendee_f.enc a) (find_from s w (left - one_if hit) (i + 1) (length l)) ≡ entry_enc (cond b (some a) (nth_in (to_ascii_lowercase w) (left - one_if hit) l))
+        → cond b (attendee_f.enc a) (find_from s w (left - one_if hit) (i + 1) (length l)) ≡ entry_enc (cond b (Some a) (nth_in (to_ascii_lowercase w) (left - one_if hit) l))
     go true ih = refl
     go false ih = ih
 

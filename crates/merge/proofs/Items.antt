@@ -1,8 +1,8 @@
 -- What is written of a merged value: the bytes of the value's items, of its conflicts, or of its refused. Assumes nothing.
+use Rattle.std.specs.Prelude.{Option, Some, None}
 use Prim.Native.Nat.{ℕ}
 use mathlib.Core.Path.{◌≡◌, refl, ap}
 use mathlib.Core.List.{List, [], ◌∷◌, ◌++◌}
-use mathlib.Core.Option.{Option, none, some}
 use mathlib.Core.Bool.{Bool, true, false, cond}
 use lib.Dec.{eqb}
 use lib.ListN.{length}
@@ -31,8 +31,8 @@ module _ {A : Type 0} where
   encs_length f (x ∷ l) = rw (encs_length f l)
 
 abbrev pub one_item : Option Attendee → List (List ℕ)
-one_item none = []
-one_item (some a) = attendee_f.enc a ∷ []
+one_item None = []
+one_item (Some a) = attendee_f.enc a ∷ []
 
 -- one of three lists, by which is asked for
 abbrev pub one_of : ℕ → List (List ℕ) → List (List ℕ) → List (List ℕ) → List (List ℕ)

@@ -1,9 +1,9 @@
 -- What is judged of encoded entries is what the merge's definitions say of the entries. Assumes nothing.
+use Rattle.std.specs.Prelude.{Option, Some, None}
 use Prim.Native.Nat.{ℕ, ◌+◌, ◌-◌}
 use native.Mathlib.Omega.{arith}
 use mathlib.Core.Path.{◌≡◌, refl, sym, ap, ◌∙◌}
 use mathlib.Core.List.{List, [], ◌∷◌, ◌++◌, append_assoc}
-use mathlib.Core.Option.{Option, none, some}
 use mathlib.Core.Bool.{Bool, true, false, cond, not, ◌&&◌, ◌||◌}
 use lib.Dec.{eqb, ltb}
 use lib.ListN.{length, length-append}
@@ -130,19 +130,19 @@ rest_enc a b = rw (head_enc a, head_enc b, kind_enc a, kind_enc b, rest_is a, re
 
 -- options: equal as absent or present bytes, and as the frame has them
 
-none_enc : (option attendee_f).enc none ≡ 0 ∷ []
+none_enc : (option attendee_f).enc None ≡ 0 ∷ []
 unfolding option via enum ◌∣◌ nothing
 none_enc = refl
 
-some_enc : (a : Attendee) → (option attendee_f).enc (some a) ≡ 1 ∷ attendee_f.enc a
+some_enc : (a : Attendee) → (option attendee_f).enc (Some a) ≡ 1 ∷ attendee_f.enc a
 unfolding option via enum ◌∣◌ nothing
 some_enc a = refl
 
 pub same_entry : (x y : Option Attendee) → same_text (entry_enc x) (entry_enc y) ≡ same_text ((option attendee_f).enc x) ((option attendee_f).enc y)
-same_entry none none = rw (none_enc, one_byte 0 0, same_nil)
-same_entry none (some b) = rw (none_enc, some_enc b, same_cons 0 1 [] (attendee_f.enc b), enc_cons b, same_short (length b.address) _)
-same_entry (some a) none = rw (none_enc, some_enc a, same_cons 1 0 (attendee_f.enc a) [], enc_cons a, same_long (length a.address) _)
-same_entry (some a) (some b) = rw (some_enc a, some_enc b, same_cons 1 1 (attendee_f.enc a) (attendee_f.enc b))
+same_entry None None = rw (none_enc, one_byte 0 0, same_nil)
+same_entry None (Some b) = rw (none_enc, some_enc b, same_cons 0 1 [] (attendee_f.enc b), enc_cons b, same_short (length b.address) _)
+same_entry (Some a) None = rw (none_enc, some_enc a, same_cons 1 0 (attendee_f.enc a) [], enc_cons a, same_long (length a.address) _)
+same_entry (Some a) (Some b) = rw (some_enc a, some_enc b, same_cons 1 1 (attendee_f.enc a) (attendee_f.enc b))
 
 pub verdict_entry : (x y z : Option Attendee) (owned : Bool)
     → verdict raw (entry_enc x) (entry_enc y) (entry_enc z) owned ≡ verdict raw ((option attendee_f).enc x) ((option attendee_f).enc y) ((option attendee_f).enc z) owned
@@ -154,26 +154,26 @@ not_empty a = ne_eqb (length (attendee_f.enc a)) 0 (λ e. let h = present a in a
 
 pub side_enc : (x : Option Attendee) → side_bytes (entry_enc x) ≡ field_value_f.enc (FieldValue.Attendee x)
 unfolding side_bytes field_value_f option via enum ◌∣◌ nothing
-side_enc none = refl
-side_enc (some a) = rw (not_empty a)
+side_enc None = refl
+side_enc (Some a) = rw (not_empty a)
 
 -- the items
 
 pub value_enc : (x : Option Attendee) → entry_value_items (entry_enc x) (reply_of (entry_enc x)) ≡ one_item x
 unfolding entry_value_items
-value_enc none = refl
-value_enc (some a) =
+value_enc None = refl
+value_enc (Some a) =
     rw (not_empty a, head_enc a, reply_enc a, kind_enc a)
     (ap (λ (t : List ℕ). t ∷ []) (sym (enc_is a)))
 
 module _ (x y z : Option Attendee) where
   abbrev refusal : parts.Refused
-  refusal = record { field = Field.Attendees; attendee = some (display_address x y z) }
+  refusal = record { field = Field.Attendees; attendee = Some (display_address x y z) }
 
   abbrev conflict : parts.Conflict
   conflict = record {
     field = Field.Attendees;
-    attendee = some (display_address x y z);
+    attendee = Some (display_address x y z);
     base = FieldValue.Attendee x;
     ours = FieldValue.Attendee y;
     theirs = FieldValue.Attendee z;
@@ -199,7 +199,7 @@ module _ (x y z : Option Attendee) where
 module _ (which : ℕ) (x y z : Option Attendee) (p : (option attendee_f).Ok x) (q : (option attendee_f).Ok y) (r : (option attendee_f).Ok z) where
   entry_by : (v : Verdict) → one_of which (entry_value_items (cond (is_ours v) (entry_enc y) (entry_enc z)) (cond (is_ours v) (reply_of (entry_enc y)) (reply_of (entry_enc z))))
       (cond (is_conflict v) (entry_conflict (entry_enc x) (entry_enc y) (entry_enc z) ∷ []) []) (cond (is_refused v) (entry_refused (entry_enc x) (entry_enc y) (entry_enc z) ∷ []) [])
-      ≡ items which one_item (judged v FieldValue.Attendee Field.Attendees (some (display_address x y z)) x y z)
+      ≡ items which one_item (judged v FieldValue.Attendee Field.Attendees (Some (display_address x y z)) x y z)
   unfolding unreported conflicting refusing
   entry_by Verdict.Theirs = one_same which (value_enc z) refl refl
   entry_by Verdict.Ours = one_same which (value_enc y) refl refl
@@ -211,7 +211,7 @@ module _ (which : ℕ) (x y z : Option Attendee) (p : (option attendee_f).Ok x) 
   unfolding entry_items whole_entry
   whole_items owned =
       rw (verdict_entry x y z owned) (entry_by (verdict raw ((option attendee_f).enc x) ((option attendee_f).enc y) ((option attendee_f).enc z) owned))
-      ∙ ap (λ (m : Merged (Option Attendee)). items which one_item m) (sym (part_judged (option attendee_f) FieldValue.Attendee Field.Attendees (some (display_address x y z)) owned x y z))
+      ∙ ap (λ (m : Merged (Option Attendee)). items which one_item m) (sym (part_judged (option attendee_f) FieldValue.Attendee Field.Attendees (Some (display_address x y z)) owned x y z))
 
 -- the reply's bytes
 reply_same : (a b : Participation) → same participation_f a b ≡ eqb (participation_from a) (participation_from b)
@@ -225,23 +225,23 @@ removed_items which b o p q = one_same which refl
     (rw (reply_enc b, reply_enc o, reply_same b.participation o.participation) (told (eqb (participation_from b.participation) (participation_from o.participation))))
     (rw (rest_enc b o) (turned (same attendee_f (rest b) (rest o))))
   where
-    x : (option attendee_f).Ok (some b)
+    x : (option attendee_f).Ok (Some b)
     x = some_ok attendee_f b p
 
-    y : (option attendee_f).Ok (some o)
+    y : (option attendee_f).Ok (Some o)
     y = some_ok attendee_f o q
 
-    z : (option attendee_f).Ok none
+    z : (option attendee_f).Ok None
     z = none_ok attendee_f
 
     told : (c : Bool) → cond (not c) (entry_conflict (attendee_f.enc b) (attendee_f.enc o) [] ∷ []) []
-        ≡ encs conflict_f.enc (when c then [] else conflict (some b) (some o) none ∷ [])
+        ≡ encs conflict_f.enc (when c then [] else conflict (Some b) (Some o) None ∷ [])
     told true = refl
-    told false = ap (λ (t : List ℕ). t ∷ []) (conflict_enc (some b) (some o) none x y z)
+    told false = ap (λ (t : List ℕ). t ∷ []) (conflict_enc (Some b) (Some o) None x y z)
 
-    turned : (c : Bool) → cond (not c) (entry_refused (attendee_f.enc b) (attendee_f.enc o) [] ∷ []) [] ≡ encs refused_f.enc (when c then [] else refusal (some b) (some o) none ∷ [])
+    turned : (c : Bool) → cond (not c) (entry_refused (attendee_f.enc b) (attendee_f.enc o) [] ∷ []) [] ≡ encs refused_f.enc (when c then [] else refusal (Some b) (Some o) None ∷ [])
     turned true = refl
-    turned false = ap (λ (t : List ℕ). t ∷ []) (refused_enc (some b) (some o) none x y z)
+    turned false = ap (λ (t : List ℕ). t ∷ []) (refused_enc (Some b) (Some o) None x y z)
 
 value_with : (t : Attendee) (n : Participation) → entry_value_items (attendee_f.enc t) (participation_from n) ≡ attendee_f.enc (with_participation n t) ∷ []
 unfolding entry_value_items with_participation
@@ -261,7 +261,7 @@ unowned b o t = go (same attendee_f o b || same attendee_f o t)
 abbrev replied : Verdict → Attendee → Attendee → Attendee → Merged Participation
 replied Verdict.Theirs b o t = unreported t.participation
 replied Verdict.Ours b o t = unreported o.participation
-replied Verdict.Conflict b o t = conflicting Field.Attendees (some t.address) (FieldValue.Attendee (some b)) (FieldValue.Attendee (some o)) (FieldValue.Attendee (some t)) t.participation
+replied Verdict.Conflict b o t = conflicting Field.Attendees (Some t.address) (FieldValue.Attendee (Some b)) (FieldValue.Attendee (Some o)) (FieldValue.Attendee (Some t)) t.participation
 replied Verdict.Refused b o t = unreported t.participation
 
 reply_by : (b o t : Attendee) (v : Verdict) → v ≡ verdict participation_f b.participation o.participation t.participation true → own_reply b o t ≡ replied v b o t
@@ -283,20 +283,20 @@ reply_judged b o t = reply_by b o t (reply_verdict b o t) (reply_means b o t)
 
 module _ (which : ℕ) (b o t : Attendee) (p : attendee_f.Ok b) (q : attendee_f.Ok o) (r : attendee_f.Ok t) where
   abbrev the_rest : Verdict → Merged Attendee
-  the_rest v = judged v (λ r. FieldValue.Attendee (some r)) Field.Attendees (some t.address) (rest b) (rest o) (rest t)
+  the_rest v = judged v (λ r. FieldValue.Attendee (Some r)) Field.Attendees (Some t.address) (rest b) (rest o) (rest t)
 
-  clashes : entry_conflict (attendee_f.enc b) (attendee_f.enc o) (attendee_f.enc t) ∷ [] ≡ conflict_f.enc (conflict (some b) (some o) (some t)) ∷ []
-  clashes = ap (λ (x : List ℕ). x ∷ []) (conflict_enc (some b) (some o) (some t) (some_ok attendee_f b p) (some_ok attendee_f o q) (some_ok attendee_f t r))
+  clashes : entry_conflict (attendee_f.enc b) (attendee_f.enc o) (attendee_f.enc t) ∷ [] ≡ conflict_f.enc (conflict (Some b) (Some o) (Some t)) ∷ []
+  clashes = ap (λ (x : List ℕ). x ∷ []) (conflict_enc (Some b) (Some o) (Some t) (some_ok attendee_f b p) (some_ok attendee_f o q) (some_ok attendee_f t r))
 
-  denied : entry_refused (attendee_f.enc b) (attendee_f.enc o) (attendee_f.enc t) ∷ [] ≡ refused_f.enc (refusal (some b) (some o) (some t)) ∷ []
-  denied = ap (λ (x : List ℕ). x ∷ []) (refused_enc (some b) (some o) (some t) (some_ok attendee_f b p) (some_ok attendee_f o q) (some_ok attendee_f t r))
+  denied : entry_refused (attendee_f.enc b) (attendee_f.enc o) (attendee_f.enc t) ∷ [] ≡ refused_f.enc (refusal (Some b) (Some o) (Some t)) ∷ []
+  denied = ap (λ (x : List ℕ). x ∷ []) (refused_enc (Some b) (Some o) (Some t) (some_ok attendee_f b p) (some_ok attendee_f o q) (some_ok attendee_f t r))
 
   by_both : (c : Bool) (v : Verdict)
       → one_of which (entry_value_items (attendee_f.enc t) (cond (is_ours v) (participation_from o.participation) (participation_from t.participation)))
       (cond (is_conflict v) (entry_conflict (attendee_f.enc b) (attendee_f.enc o) (attendee_f.enc t) ∷ []) [])
       (cond (not c) (entry_refused (attendee_f.enc b) (attendee_f.enc o) (attendee_f.enc t) ∷ []) [])
       ≡ one_of which
-      (one_item (some (with_participation (replied v b o t).value (the_rest (cond c Verdict.Theirs Verdict.Refused)).value)))
+      (one_item (Some (with_participation (replied v b o t).value (the_rest (cond c Verdict.Theirs Verdict.Refused)).value)))
       (encs conflict_f.enc ((the_rest (cond c Verdict.Theirs Verdict.Refused)).conflicts ++ (replied v b o t).conflicts))
       (encs refused_f.enc ((the_rest (cond c Verdict.Theirs Verdict.Refused)).refused ++ (replied v b o t).refused))
   unfolding unreported conflicting refusing rest with_participation display_address
@@ -311,7 +311,7 @@ module _ (which : ℕ) (b o t : Attendee) (p : attendee_f.Ok b) (q : attendee_f.
 
   abbrev both : Merged Attendee → Merged Participation → Merged (Option Attendee)
   both m n = record {
-    value = some (with_participation n.value m.value);
+    value = Some (with_participation n.value m.value);
     conflicts = m.conflicts ++ n.conflicts;
     refused = m.refused ++ n.refused;
   }
@@ -322,7 +322,7 @@ module _ (which : ℕ) (b o t : Attendee) (p : attendee_f.Ok b) (q : attendee_f.
   standing_is : own_standing b o t ≡ both (the_rest (cond unchanged Verdict.Theirs Verdict.Refused)) (replied (reply_verdict b o t) b o t)
   unfolding own_standing
   standing_is =
-      ap (λ (m : Merged Attendee). both m (own_reply b o t)) (part_judged attendee_f (λ r. FieldValue.Attendee (some r)) Field.Attendees (some t.address) false (rest b) (rest o) (rest t)
+      ap (λ (m : Merged Attendee). both m (own_reply b o t)) (part_judged attendee_f (λ r. FieldValue.Attendee (Some r)) Field.Attendees (Some t.address) false (rest b) (rest o) (rest t)
       ∙ ap the_rest (unowned (rest b) (rest o) (rest t)))
       ∙ ap (λ (n : Merged Participation). both (the_rest (cond unchanged Verdict.Theirs Verdict.Refused)) n) (reply_judged b o t)
 
@@ -337,10 +337,10 @@ module _ (which : ℕ) (b o t : Attendee) (p : attendee_f.Ok b) (q : attendee_f.
 pub own_items : (which : ℕ) (x y z : Option Attendee) → (option attendee_f).Ok x → (option attendee_f).Ok y → (option attendee_f).Ok z
     → entry_items which (judge_own (entry_enc x) (entry_enc y) (entry_enc z)) (entry_enc x) (entry_enc y) (entry_enc z) ≡ items which one_item (own_entry x y z)
 unfolding judge_own own_entry
-own_items which none y z p q r = whole_items which none y z p q r false
-own_items which (some b) none z p q r = rw (not_empty b) (whole_items which (some b) none z p q r false)
-own_items which (some b) (some o) none p q r = rw (not_empty b, not_empty o) (removed_items which b o (ok_some attendee_f b p) (ok_some attendee_f o q))
-own_items which (some b) (some o) (some t) p q r = rw (not_empty b, not_empty o, not_empty t) (standing_items which b o t (ok_some attendee_f b p) (ok_some attendee_f o q) (ok_some attendee_f t r))
+own_items which None y z p q r = whole_items which None y z p q r false
+own_items which (Some b) None z p q r = rw (not_empty b) (whole_items which (Some b) None z p q r false)
+own_items which (Some b) (Some o) None p q r = rw (not_empty b, not_empty o) (removed_items which b o (ok_some attendee_f b p) (ok_some attendee_f o q))
+own_items which (Some b) (Some o) (Some t) p q r = rw (not_empty b, not_empty o, not_empty t) (standing_items which b o t (ok_some attendee_f b p) (ok_some attendee_f o q) (ok_some attendee_f t r))
 
 -- an entry, own or not: what the code judges and writes is what the definitions say
 pub entry_items_lem : (which : ℕ) (own owner : Bool) (x y z : Option Attendee) → (option attendee_f).Ok x → (option attendee_f).Ok y → (option attendee_f).Ok z

@@ -1,9 +1,9 @@
 -- What is written of encoded fields is what the merge's definitions have. Assumes nothing.
+use Rattle.std.specs.Prelude.{Option, Some, None}
 use Prim.Native.Nat.{ℕ, ◌≤◌}
 use native.Mathlib.Omega.{arith}
 use mathlib.Core.Path.{◌≡◌, refl, sym, ap, ap₂, ◌∙◌}
 use mathlib.Core.List.{List, [], ◌∷◌, ◌++◌, append_assoc, append-nil}
-use mathlib.Core.Option.{Option, none, some}
 use mathlib.Core.Bool.{Bool, true}
 use lib.ListN.{length}
 use Rattle.format.specs.Format.{Format, below, option, list, enum, ◌∣◌, nothing, via, ◌⊗◌}
@@ -30,17 +30,17 @@ module _ {A : Type 0} (which : ℕ) (f : Format A) (value : A → FieldValue) (f
   one v = f.enc v ∷ []
 
   by_verdict : (v : Verdict) → one_of which (value_item v (f.enc o) (f.enc t) ∷ []) (conflict_items v (field_from field) (f.enc b) (f.enc o) (f.enc t)) (refused_items v (field_from field))
-      ≡ items which one (judged v value field none b o t)
+      ≡ items which one (judged v value field None b o t)
   unfolding unreported conflicting refusing conflict_f refused_f field_f option via ◌⊗◌ enum ◌∣◌ nothing below
   by_verdict Verdict.Theirs = refl
   by_verdict Verdict.Ours = refl
   by_verdict Verdict.Conflict = one_same which refl (rw (is b, is o, is t)) refl
   by_verdict Verdict.Refused = refl
 
-  pub unit_is : (owned : Bool) → unit_items which (field_from field) (f.enc b) (f.enc o) (f.enc t) owned ≡ items which one (merge_part f value field none owned b o t)
+  pub unit_is : (owned : Bool) → unit_items which (field_from field) (f.enc b) (f.enc o) (f.enc t) owned ≡ items which one (merge_part f value field None owned b o t)
   unfolding unit_items
   unit_is owned =
-      by_verdict (verdict raw (f.enc b) (f.enc o) (f.enc t) owned) ∙ ap (λ (m : Merged A). items which one m) (sym (part_judged f value field none owned b o t))
+      by_verdict (verdict raw (f.enc b) (f.enc o) (f.enc t) owned) ∙ ap (λ (m : Merged A). items which one m) (sym (part_judged f value field None owned b o t))
 
 -- a unit's value as a field's value: the field's place and the same bytes
 
@@ -87,37 +87,37 @@ reminders_value x = refl
 -- the merged parts
 module _ (role : Role) (b o t : NormalizedEvent) where
   abbrev title_part : Merged (Option Text)
-  title_part = merge_part (option short_text) FieldValue.Title Field.Title none (is_owner role) b.title o.title t.title
+  title_part = merge_part (option short_text) FieldValue.Title Field.Title None (is_owner role) b.title o.title t.title
 
   abbrev times_part : Merged Tag
-  times_part = merge_part tag FieldValue.Times Field.Times none (is_owner role) b.times o.times t.times
+  times_part = merge_part tag FieldValue.Times Field.Times None (is_owner role) b.times o.times t.times
 
   abbrev recurrence_part : Merged (Option Tag)
-  recurrence_part = merge_part (option tag) FieldValue.Recurrence Field.Recurrence none (is_owner role) b.recurrence o.recurrence t.recurrence
+  recurrence_part = merge_part (option tag) FieldValue.Recurrence Field.Recurrence None (is_owner role) b.recurrence o.recurrence t.recurrence
 
   abbrev organizer_part : Merged (Option Organizer)
-  organizer_part = merge_part (option organizer_f) FieldValue.Organizer Field.Organizer none (is_owner role) b.organizer o.organizer t.organizer
+  organizer_part = merge_part (option organizer_f) FieldValue.Organizer Field.Organizer None (is_owner role) b.organizer o.organizer t.organizer
 
   abbrev attendees_part : Merged (List Attendee)
   attendees_part = merge_attendees role b.attendees o.attendees t.attendees
 
   abbrev location_part : Merged (Option Text)
-  location_part = merge_part (option short_text) FieldValue.Location Field.Location none (is_owner role) b.location o.location t.location
+  location_part = merge_part (option short_text) FieldValue.Location Field.Location None (is_owner role) b.location o.location t.location
 
   abbrev description_part : Merged (Option Tag)
-  description_part = merge_part (option tag) FieldValue.Description Field.Description none (is_owner role) b.description o.description t.description
+  description_part = merge_part (option tag) FieldValue.Description Field.Description None (is_owner role) b.description o.description t.description
 
   abbrev status_part : Merged EventStatus
-  status_part = merge_part status_f FieldValue.Status Field.Status none (is_owner role) b.status o.status t.status
+  status_part = merge_part status_f FieldValue.Status Field.Status None (is_owner role) b.status o.status t.status
 
   abbrev transparency_part : Merged Transparency
-  transparency_part = merge_part transparency_f FieldValue.Transparency Field.Transparency none (is_owner role) b.transparency o.transparency t.transparency
+  transparency_part = merge_part transparency_f FieldValue.Transparency Field.Transparency None (is_owner role) b.transparency o.transparency t.transparency
 
   abbrev visibility_part : Merged Visibility
-  visibility_part = merge_part visibility_f FieldValue.Visibility Field.Visibility none (is_owner role) b.visibility o.visibility t.visibility
+  visibility_part = merge_part visibility_f FieldValue.Visibility Field.Visibility None (is_owner role) b.visibility o.visibility t.visibility
 
   abbrev reminders_part : Merged Tag
-  reminders_part = merge_part tag FieldValue.Reminders Field.Reminders none true b.reminders o.reminders t.reminders
+  reminders_part = merge_part tag FieldValue.Reminders Field.Reminders None true b.reminders o.reminders t.reminders
 
 attendees_stood : {s : List ℕ} {e : NormalizedEvent} → Stood fields_f s start e → Stood (list max_attendees attendee_f) (unit_bytes s 4) start e.attendees
 unfolding fields_f via ◌⊗◌
@@ -222,8 +222,8 @@ entries_few role b o t [] = omega arith
 entries_few role b o t (k ∷ ks) = go (entry_at role b o t k).value (entries_few role b o t ks)
   where
     go : (x : Option Attendee) → length (entries_at role b o t ks).value ≤ length ks → length (extend role b o t x (entries_at role b o t ks).value) ≤ length (k ∷ ks)
-    go none h = omega (arith, h)
-    go (some a) h = omega (arith, h)
+    go None h = omega (arith, h)
+    go (Some a) h = omega (arith, h)
 
 few_attendees : (e : NormalizedEvent) → fields_f.Ok e → length e.attendees ≤ 8
 unfolding fields_f via ◌⊗◌ list max_attendees

@@ -1,9 +1,9 @@
 -- A value of a format stands at a place: what is skipped there, and which bytes those are. Assumes nothing.
+use Rattle.std.specs.Prelude.{Some}
 use Prim.Native.Nat.{ℕ, ◌+◌, ◌-◌, ◌≤◌}
 use native.Mathlib.Omega.{arith}
 use mathlib.Core.Path.{◌≡◌, refl, sym, ap, ◌∙◌}
 use mathlib.Core.List.{List, [], ◌++◌, append_assoc, append-nil}
-use mathlib.Core.Option.{some}
 use mathlib.Core.Bool.{true}
 use lib.ListN.{length, drop, length-append, length-drop}
 use lib.Seq.{take_at, drop_at, drop-drop}
@@ -38,7 +38,7 @@ module _ {A : Type 0} {f : Format A} (F : Lawful f) {s : List ℕ} {c : Cursor} 
   pub next_is : skips f s c ≡ record { at = c.at + length (f.enc v); ok = true }
   unfolding skips
   next_is =
-      let d : f.dec (drop c.at s) ≡ some (v, S.tail) = ap f.dec S.is ∙ F.writes v S.fine S.tail in
+      let d : f.dec (drop c.at s) ≡ Some (v, S.tail) = ap f.dec S.is ∙ F.writes v S.fine S.tail in
       let n = counted in
       let k : length s - length S.tail ≡ c.at + length (f.enc v) = omega arith in
       rw (S.ok, d, k)

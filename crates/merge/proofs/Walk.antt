@@ -1,10 +1,10 @@
 -- The items of encoded attendee lists are those of the merge's definitions, key by key. Assumes nothing.
+use Rattle.std.specs.Prelude.{Option, Some, None}
 use Prim.Native.Nat.{ℕ, zero, suc, ◌≤◌, ◌<◌}
 use native.Mathlib.Omega.{arith}
 use native.Mathlib.Numerals.{add-one}
 use mathlib.Core.Path.{◌≡◌, refl, sym, ap, ap₂, ◌∙◌, subst}
 use mathlib.Core.List.{List, [], ◌∷◌, ◌++◌, append_assoc, append-nil}
-use mathlib.Core.Option.{Option, none, some}
 use mathlib.Core.Bool.{Bool, true, false, cond, not}
 use lib.Dec.{ltb}
 use lib.ListN.{length, take, drop, get_or}
@@ -35,7 +35,7 @@ pub record Writes (owner : Bool) (me : Text) (role : Role) : Type 0 where
   pub own_is : (w : Text) (n : ℕ) → own_of owner me w ≡ is_own role (record { address = to_ascii_lowercase w; occurrence = n })
 
 abbrev no_one : Attendee
-no_one = record { address = []; name = none; role = AttendeeRole.Required; participation = Participation.NeedsAction; kind = ParticipantKind.Individual }
+no_one = record { address = []; name = None; role = AttendeeRole.Required; participation = Participation.NeedsAction; kind = ParticipantKind.Individual }
 
 list_fine : {s : List ℕ} {l : List Attendee} → Stood (list max_attendees attendee_f) s start l → All attendee_f.Ok l
 unfolding list
@@ -100,8 +100,8 @@ module _ (which : ℕ) (role : Role) (b o t : Keyed) where
 
   extend_encs : (x : Option Attendee) (l : List Attendee) → encs attendee_f.enc (extend role b o t x l) ≡ one_item x ++ encs attendee_f.enc l
   unfolding extend
-  extend_encs none l = refl
-  extend_encs (some a) l = refl
+  extend_encs None l = refl
+  extend_encs (Some a) l = refl
 
   pub items_are : (ks : List Key) → items_at ks ≡ items which (encs attendee_f.enc) (entries_at role b o t ks)
   unfolding entries_at unreported
@@ -164,8 +164,8 @@ module _ (which : ℕ) {owner : Bool} {me : Text} {role : Role} (W : Writes owne
     where
       go : (x : Option Attendee) → key_items which owner me base ours theirs w n ≡ at_key k
           → cond (ltb 0 (length (entry_enc x))) [] (key_items which owner me base ours theirs w n) ≡ at_keys (when not (is_some x) then k ∷ [] else [])
-      go none ih = ih ∙ sym (append-nil (at_key k))
-      go (some a) ih = rw (lt-ltb 0 (length (attendee_f.enc a)) (present a))
+      go None ih = ih ∙ sym (append-nil (at_key k))
+      go (Some a) ih = rw (lt-ltb 0 (length (attendee_f.enc a)) (present a))
 
   our_items_lem : (n : ℕ) → n ≤ length o → our_items which owner me base ours theirs n ≡ at_keys (filter new (keys (keyed (take n o))))
   unfolding our_items keyed keyed_after map filter

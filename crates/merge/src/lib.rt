@@ -9,13 +9,14 @@ ghost use Rattle.model.specs.Parts.{Role};
 ghost use Rattle.model.specs.Limits.{max_conflict_bytes, max_refused_bytes};
 ghost use Rattle.model.specs.Formats.{event_f, conflicts_f, refusals_f};
 ghost use Rattle.model.specs.Merge.{merge};
+ghost use Rattle.comparison.specs.Which.{number_of};
 ghost use Rattle.pens.specs.Writing.{Wrote, Listed, flat};
 ghost use Rattle.merge.specs.Given.{Begins, Given};
 ghost use Rattle.merge.specs.Within.{WroteWithin};
 ghost use Rattle.merge.specs.Parts.{fields_place, fields_end, before_fields, fields_of, after_fields, event_of, owner_of, writer_of};
 ghost use Rattle.merge.specs.Reports.{attendee_items, report_items, field_bytes};
 
-use comparison::{CONFLICTS, MERGED, REFUSED};
+use comparison::Which;
 use frame::{Cursor, U32};
 use pens::{Pen, Sheet};
 
@@ -109,7 +110,7 @@ fn count_attendees<'a>(
     let h = attendees::entries(
         none,
         &mut nowhere,
-        MERGED,
+        Which::Merged,
         owner,
         me,
         units::unit_part(base, 4),
@@ -135,7 +136,7 @@ fn merged_fields<'a>(
     let h = units::units(
         Sheet { pen, count: 0 },
         out,
-        MERGED,
+        Which::Merged,
         0,
         4,
         base,
@@ -148,14 +149,14 @@ fn merged_fields<'a>(
     let i = attendees::entries(
         Sheet { pen: q, count: 0 },
         out,
-        MERGED,
+        Which::Merged,
         owner,
         me,
         units::unit_part(base, 4),
         units::unit_part(ours, 4),
         units::unit_part(theirs, 4),
     );
-    let j = units::units(i, out, MERGED, 5, 11, base, ours, theirs, owner);
+    let j = units::units(i, out, Which::Merged, 5, 11, base, ours, theirs, owner);
     j.pen
 }
 
@@ -163,14 +164,14 @@ fn merged_fields<'a>(
 fn reports<'a>(
     sheet: Sheet,
     out: &mut [u8],
-    which: u8,
+    which: Which,
     owner: bool,
     me: &[u8],
     base: &'a [u8],
     ours: &'a [u8],
     theirs: &'a [u8],
 ) -> Sheet
-    ensures { Listed out.old out.new sheet.pen sheet.count result.pen result.count (report_items which owner me.now base.now ours.now theirs.now) }
+    ensures { Listed out.old out.new sheet.pen sheet.count result.pen result.count (report_items (number_of which) owner me.now base.now ours.now theirs.now) }
 {
     let h = units::units(sheet, out, which, 0, 4, base, ours, theirs, owner);
     let i = attendees::entries(
@@ -188,15 +189,15 @@ fn reports<'a>(
 
 // How many there are: the reports, written nowhere.
 fn count_reports<'a>(
-    which: u8,
+    which: Which,
     owner: bool,
     me: &[u8],
     base: &'a [u8],
     ours: &'a [u8],
     theirs: &'a [u8],
 ) -> u8
-    ensures { length (report_items which owner me.now base.now ours.now theirs.now) ≤ 255
-        → result ≡ length (report_items which owner me.now base.now ours.now theirs.now) }
+    ensures { length (report_items (number_of which) owner me.now base.now ours.now theirs.now) ≤ 255
+        → result ≡ length (report_items (number_of which) owner me.now base.now ours.now theirs.now) }
 {
     let mut nowhere: [u8; 1] = [0; 1];
     let none = Sheet {
@@ -211,17 +212,17 @@ fn count_reports<'a>(
 fn report_list<'a>(
     pen: Pen,
     out: &mut [u8],
-    which: u8,
+    which: Which,
     owner: bool,
     me: &[u8],
     base: &'a [u8],
     ours: &'a [u8],
     theirs: &'a [u8],
 ) -> Pen
-    ensures { length (report_items which owner me.now base.now ours.now theirs.now) ≤ 255
+    ensures { length (report_items (number_of which) owner me.now base.now ours.now theirs.now) ≤ 255
         → Wrote out.old out.new pen result
-        (length (report_items which owner me.now base.now ours.now theirs.now)
-        ∷ flat (report_items which owner me.now base.now ours.now theirs.now)) }
+        (length (report_items (number_of which) owner me.now base.now ours.now theirs.now)
+        ∷ flat (report_items (number_of which) owner me.now base.now ours.now theirs.now)) }
 {
     let n = count_reports(which, owner, me, base, ours, theirs);
     let p = pen.byte(out, n);
@@ -296,7 +297,7 @@ pub fn conflicts<'a>(
     report_list(
         pen,
         out,
-        CONFLICTS,
+        Which::Conflicts,
         is_owner(role),
         writer(role),
         base,
@@ -320,7 +321,7 @@ pub fn refused<'a>(
     report_list(
         pen,
         out,
-        REFUSED,
+        Which::Refused,
         is_owner(role),
         writer(role),
         base,

@@ -2,34 +2,16 @@
 #![tactic(auto)]
 
 use comparison::part;
-use frame::Cursor;
+use frame::{Cursor, MAX_ATTENDEES, MAX_EVENT};
 use pens::Pen;
-
-// The file number of standard output.
-const STDOUT_FILENO: i32 = 1;
-
-fn write(bytes: &[u8]) {
-    io::write_all(STDOUT_FILENO, bytes);
-}
-
-fn digit(n: u8) -> u8 {
-    if n < 10 {
-        return b'0' + n;
-    }
-    if n < 16 {
-        return b'a' + (n - 10);
-    }
-    b'?'
-}
+use printing::show;
 
 // The bytes in hexadecimal.
-fn show(bytes: &[u8]) {
-    let mut i = 0;
-    while i < bytes.len() {
-        let b = bytes[i];
-        let pair: [u8; 2] = [digit(b / 16), digit(b % 16)];
-        write(&pair);
-        i += 1;
+fn show_digits(bytes: &[u8]) {
+    for b in bytes {
+        let mut digits = [0u8; 16];
+        let n = io::hex(u64::from(*b), 2, &mut digits);
+        show(&digits[..n]);
     }
 }
 
@@ -38,28 +20,28 @@ fn reports<'a>(base: &'a [u8], ours: &'a [u8], theirs: &'a [u8], role: &'a [u8])
     let mut conflicts = [0u8; 3072];
     let start = Pen { at: 0, ok: true };
     let pen = merge::conflicts(start, &mut conflicts, base, ours, theirs, role);
-    show(part(&conflicts, 0, pen.at));
+    show_digits(part(&conflicts, 0, pen.at));
     let mut refused = [0u8; 1024];
     let end = merge::refused(start, &mut refused, base, ours, theirs, role);
-    show(part(&refused, 0, end.at));
-    write(b"\n");
+    show_digits(part(&refused, 0, end.at));
+    show(b"\n");
 }
 
 fn answer<'a>(base: &'a [u8], ours: &'a [u8], theirs: &'a [u8], role: &'a [u8]) {
-    if 8 < merge::merged_attendees(base, ours, theirs, role) {
-        write(b"06\n");
+    if MAX_ATTENDEES < merge::merged_attendees(base, ours, theirs, role) {
+        show(b"06\n");
         return;
     }
-    let mut event = [0u8; 882];
+    let mut event = [0u8; MAX_EVENT];
     let start = Pen { at: 0, ok: true };
     let pen = merge::merged_event(start, &mut event, base, ours, theirs, role);
     let merged = part(&event, 0, pen.at);
     if merge::changed(merged, theirs) {
-        write(b"01 ");
-        show(merged);
-        write(b" ");
+        show(b"01 ");
+        show_digits(merged);
+        show(b" ");
     } else {
-        write(b"00 - ");
+        show(b"00 - ");
     }
     reports(base, ours, theirs, role);
 }
@@ -86,16 +68,11 @@ fn one(s: &[u8], place: Cursor) -> Cursor {
 // Every case takes a byte at least, so there are no more of them than bytes.
 fn all(s: &[u8]) {
     let mut place = Cursor { at: 0, ok: true };
-    let mut left = s.len();
-    while 0 < left {
-        if !place.ok {
-            return;
-        }
-        if s.len() <= place.at {
+    for _ in 0..s.len() {
+        if !place.ok || s.len() <= place.at {
             return;
         }
         place = one(s, place);
-        left -= 1;
     }
 }
 

@@ -1,9 +1,9 @@
 -- The entry over the lent bytes: which bytes are a state, demand 1, and that a list of calls of the entry is a list of calls of the
 -- engine. Assumes nothing.
+use Rattle.std.specs.Prelude.{Option, Some, None}
 use native.Mathlib.Omega.{arith}
 use mathlib.Core.Path.{◌≡◌, refl, ap, ◌∙◌}
 use mathlib.Core.List.{List, [], ◌∷◌}
-use mathlib.Core.Option.{Option, none, some}
 use mathlib.Core.Bool.{Bool, true, false}
 use mathlib.Core.Logic.{◌↔◌}
 use Rattle.format.specs.Format.{via, enum, whole_of}
@@ -25,14 +25,14 @@ use Rattle.model.proofs.StaysWellFormed.{stays_well_formed, step_well_formed}
 
 -- bytes are read as a state exactly where they are those of that well-formed state
 pub states_exact : (limits : Limits) (bytes : Bytes) (s : SyncState)
-    → (read_state limits bytes ≡ some s) ↔ (WellFormed limits s × (bytes ≡ (state_layout limits).enc s))
+    → (read_state limits bytes ≡ Some s) ↔ (WellFormed limits s × (bytes ≡ (state_layout limits).enc s))
 unfolding read_state
 states_exact limits bytes s =
     let w = whole (state_bytes_law limits) bytes s in
     (λ e. let p = w.0 e in (state_back limits s p.0, p.1), λ p. w.1 (state_there limits s p.0, p.1))
 
 -- no bytes are no input
-pub no_bytes : decode [] ≡ none
+pub no_bytes : decode [] ≡ None
 unfolding decode whole_of input_f via enum
 no_bytes = refl
 
@@ -63,14 +63,14 @@ module _ (limits : Limits) (lent : Lent) (frame : Bytes) where
 
   well_step : (s : SyncState) → WellFormed limits s → (o : Option Input) → decode frame ≡ o → WellFormed limits (state_after s (step_frame limits s o))
   unfolding step_frame state_after decode
-  well_step s w none e = w
-  well_step s w (some input) e = step_well_formed limits s input w ((accepted frame input).0 e).0
+  well_step s w None e = w
+  well_step s w (Some input) e = step_well_formed limits s input w ((accepted frame input).0 e).0
 
   well : (b : Bool) (o : Option SyncState) → read_state limits lent.state ≡ o
       → Well (when b then answered limits lent (match o none: Stepped.Refused 2 some: (λ s. step_frame limits s (decode frame))) else record { code = 1; length = 0; lent = lent })
   unfolding when◌then◌else◌ match◌none:◌some:◌ answered leaves
-  well true none e h = absurd (omega arith)
-  well true (some s) e h =
+  well true None e h = absurd (omega arith)
+  well true (Some s) e h =
       let p = (states_exact limits lent.state s).0 e in
       well_answer s p.0 p.1 (step_frame limits s (decode frame)) (well_step s p.0 (decode frame) refl) h
   well false o e h = absurd (omega arith)
@@ -88,7 +88,7 @@ module _ (limits : Limits) where
   abbrev untouched : Lent → Returned
   untouched lent = record { code = 1; length = 0; lent = lent }
 
-  one_of : (lent : Lent) (frame : Bytes) (s : SyncState) (b : Bool) (o : Option SyncState) → o ≡ some s
+  one_of : (lent : Lent) (frame : Bytes) (s : SyncState) (b : Bool) (o : Option SyncState) → o ≡ Some s
       → (when b then answered limits lent (match o none: Stepped.Refused 2 some: (λ s. step_frame limits s (decode frame))) else untouched lent)
       ≡ (when b then answered limits lent (when b then step_frame limits s (decode frame) else Stepped.Refused 1) else untouched lent)
   unfolding when◌then◌else◌ match◌none:◌some:◌

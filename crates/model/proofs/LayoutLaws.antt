@@ -1,9 +1,9 @@
 -- The state's bytes of Layout.antt are lawful, allow exactly the well-formed states, and have one length. Assumes nothing.
+use Rattle.std.specs.Prelude.{Option, Some, None}
 use Prim.Native.Nat.{ℕ, ◌+◌, ◌*◌, ◌≤◌}
 use native.Mathlib.Omega.{arith}
 use mathlib.Core.Path.{◌≡◌, refl, sym, ap, ◌∙◌, subst}
 use mathlib.Core.List.{List, [], ◌∷◌, ◌++◌}
-use mathlib.Core.Option.{Option, none, some}
 use mathlib.Core.Bool.{Bool, true, false, not}
 use lib.ListN.{length, length-append}
 use lib.Dec.{T, eqb, eqb→eq, lit<}
@@ -85,7 +85,7 @@ module _ (limits : Limits) where
   entries_law : Lawful entries
   entries_law = table_law (entry_bytes_law limits) limits.waiting (entry_bytes limits)
 
-  queues_reads : (s : List ℕ) (r : Map ResourceId Queue × List ℕ) → map_got queues_of (entries.dec s) ≡ some r
+  queues_reads : (s : List ℕ) (r : Map ResourceId Queue × List ℕ) → map_got queues_of (entries.dec s) ≡ Some r
       → (s ≡ entries.enc (entries_of r.0) ++ r.1) × (entries.Ok (entries_of r.0) × (queues_of (entries_of r.0) ≡ r.0))
   queues_reads s r e =
       let j = map_inv queues_of (entries.dec s) r e in
@@ -96,7 +96,7 @@ module _ (limits : Limits) where
   queues_bytes_law : Lawful (queues_layout limits)
   unfolding queues_layout
   queues_bytes_law = record {
-    writes = λ m ok t. ap (map_got queues_of) (entries_law.writes (entries_of m) ok.0 t) ∙ ap (λ (q : Map ResourceId Queue). some (q, t)) ok.1;
+    writes = λ m ok t. ap (map_got queues_of) (entries_law.writes (entries_of m) ok.0 t) ∙ ap (λ (q : Map ResourceId Queue). Some (q, t)) ok.1;
     reads = queues_reads;
   }
 
@@ -204,12 +204,12 @@ unfolding option via enum ◌∣◌ nothing
 option_alike {A} {f} {g} F = record { there = there; back = back }
   where
     there : (a : Option A) → (option f).Ok a → (option g).Ok a
-    there none ok = tt
-    there (some a) ok = F.there a ok
+    there None ok = tt
+    there (Some a) ok = F.there a ok
 
     back : (a : Option A) → (option g).Ok a → (option f).Ok a
-    back none ok = tt
-    back (some a) ok = F.back a ok
+    back None ok = tt
+    back (Some a) ok = F.back a ok
 
 then_alike : {A : Type 0} {f g h : Format A} → Alike f g → Alike g h → Alike f h
 then_alike F G = record { there = λ a ok. G.there a (F.there a ok); back = λ a ok. F.back a (G.back a ok) }

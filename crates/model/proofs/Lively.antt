@@ -1,10 +1,10 @@
 -- A fact of the machine that outlives the assignments, the requests but for an Update, and the notices of the writing half outlives the writing half. One
 -- proof for all such facts, as Calm.antt has it for the reading half. What is known where an update is planned is handed to `on_edit_read_ends`.
 -- Assumes nothing.
+use Rattle.std.specs.Prelude.{Option, Some, None}
 use mathlib.Core.Path.{◌≡◌, refl, sym, ◌∙◌}
 use Prim.Native.Nat.{ℕ}
 use mathlib.Core.List.{List, [], ◌∷◌}
-use mathlib.Core.Option.{Option, none, some}
 use mathlib.Core.Bool.{Bool, true, false}
 use lib.Dec.{leb}
 use lib.ListN.{length}
@@ -140,10 +140,10 @@ module _ {R : ℕ → Type 0} {P : Machine → Type 0} (lively : Lively R P) whe
 
   place_ends : (q : Queue) (o : Option Pending) (c : Option Coalesced) (edit : Edit) (m : Machine) → P m → Ends R P (place q o c edit m)
   unfolding place
-  place_ends q none k edit m h = append_ends _ _ m h
-  place_ends q (some w) none edit m h = append_ends _ _ m h
-  place_ends q (some w) (some (Coalesced.Into operation)) edit m h = fold_in_ends _ _ _ _ m h
-  place_ends q (some w) (some Coalesced.Cancelled) edit m h = cancel_ends _ _ _ m h
+  place_ends q None k edit m h = append_ends _ _ m h
+  place_ends q (Some w) None edit m h = append_ends _ _ m h
+  place_ends q (Some w) (Some (Coalesced.Into operation)) edit m h = fold_in_ends _ _ _ _ m h
+  place_ends q (Some w) (Some Coalesced.Cancelled) edit m h = cancel_ends _ _ _ m h
 
   enqueue_live_ends : (edit : Edit) (m : Machine) → P m → Ends R P (enqueue_live edit m)
   unfolding enqueue_live
@@ -180,20 +180,20 @@ module _ {R : ℕ → Type 0} {P : Machine → Type 0} (lively : Lively R P) whe
       decide _ (λ e. branch _ (sent _ (change_head_keeps _ _ m h)) (finish_ends _ _ _ (change_head_keeps _ _ m h))) (λ e. stopped (crowded e))
 
   plan_ends : (resource : ResourceId) (p : Pending) (operation : Operation) (theirs : Option ProviderEvent) (m : Machine)
-      → ((base ours : NormalizedEvent) (t : ProviderEvent) → operation ≡ Operation.Update base ours → theirs ≡ some t → Ends R P (plan_update resource p.edit.role base ours t m))
+      → ((base ours : NormalizedEvent) (t : ProviderEvent) → operation ≡ Operation.Update base ours → theirs ≡ Some t → Ends R P (plan_update resource p.edit.role base ours t m))
       → P m → Ends R P (plan resource p operation theirs m)
   unfolding plan
-  plan_ends resource p (Operation.Create ours) (some theirs) m k h = search (walks, remap_ends, finish_ends)
-  plan_ends resource p (Operation.Create ours) none m k h = search (walks, finish_ends)
-  plan_ends resource p (Operation.Update base ours) none m k h = finish_ends _ _ m h
-  plan_ends resource p (Operation.Update base ours) (some theirs) m k h = k base ours theirs refl refl
-  plan_ends resource p Operation.Delete none m k h = finish_ends _ _ m h
-  plan_ends resource p Operation.Delete (some theirs) m k h = lively.sends _ _ m tt h
+  plan_ends resource p (Operation.Create ours) (Some theirs) m k h = search (walks, remap_ends, finish_ends)
+  plan_ends resource p (Operation.Create ours) None m k h = search (walks, finish_ends)
+  plan_ends resource p (Operation.Update base ours) None m k h = finish_ends _ _ m h
+  plan_ends resource p (Operation.Update base ours) (Some theirs) m k h = k base ours theirs refl refl
+  plan_ends resource p Operation.Delete None m k h = finish_ends _ _ m h
+  plan_ends resource p Operation.Delete (Some theirs) m k h = lively.sends _ _ m tt h
 
   -- what is shown of the plan of an update: the head stands as it stood, and theirs is what was found
   abbrev pub Planned : ResourceId → Option ProviderEvent → Machine → Type 0
-  Planned resource theirs m = (p : Pending) (base ours : NormalizedEvent) (t : ProviderEvent) → head resource m ≡ some p → p.edit.operation ≡ Operation.Update base ours
-      → theirs ≡ some t → (m' : Machine) → P m' → Ends R P (plan_update resource p.edit.role base ours t m')
+  Planned resource theirs m = (p : Pending) (base ours : NormalizedEvent) (t : ProviderEvent) → head resource m ≡ Some p → p.edit.operation ≡ Operation.Update base ours
+      → theirs ≡ Some t → (m' : Machine) → P m' → Ends R P (plan_update resource p.edit.role base ours t m')
 
   edit_read_found_ends : (rid : RequestId) (resource : ResourceId) (theirs : Option ProviderEvent) (m : Machine) → Planned resource theirs m
       → P m → Ends R P (edit_read_found rid resource theirs m)

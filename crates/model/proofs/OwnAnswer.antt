@@ -1,10 +1,10 @@
 -- Change request 9/13, of a merge: under the attendee role it keeps theirs, but for the reminders and the replies of the writer's own entries. By key,
 -- an entry of theirs stands with at most another reply, and a key that only ours has gives nothing. Assumes nothing.
+use Rattle.std.specs.Prelude.{Option, Some, None}
 use Prim.Native.Nat.{ℕ, zero, suc, ◌+◌, ◌≤◌}
 use native.Mathlib.Omega.{arith}
 use mathlib.Core.Path.{◌≡◌, refl, sym, ap, ap₂, ◌∙◌, subst}
 use mathlib.Core.List.{List, [], ◌∷◌, ◌++◌, append_assoc}
-use mathlib.Core.Option.{Option, none, some}
 use mathlib.Core.Bool.{Bool, true, false, true≢false, not}
 use lib.ListN.{length}
 use Rattle.format.specs.Format.{Format, via, ◌⊗◌, below, option, list, concat_map, big_endian, number}
@@ -26,14 +26,14 @@ data Stands (address : Text) (a : Attendee) : Attendee → Type 0 where
   replied : own address a ≡ true → (p : Participation) → Stands address a (with_participation p a)
 
 data Standing (address : Text) (a : Attendee) : Option Attendee → Type 0 where
-  stands : (v : Attendee) → Stands address a v → Standing address a (some v)
+  stands : (v : Attendee) → Stands address a v → Standing address a (Some v)
 
 -- entry by entry, in theirs' order
 data AllStand (address : Text) : List Attendee → List Attendee → Type 0 where
   done : AllStand address [] []
   more : (a v : Attendee) (as' vs : List Attendee) → Stands address a v → AllStand address as' vs → AllStand address (a ∷ as') (v ∷ vs)
 
-itself : (address : Text) (a : Attendee) (v : Option Attendee) → v ≡ some a → Standing address a v
+itself : (address : Text) (a : Attendee) (v : Option Attendee) → v ≡ Some a → Standing address a v
 itself address a v e = rw e (stands a whole)
 
 -- a part that is not owned is theirs
@@ -42,45 +42,45 @@ unfolding whole_entry
 whole_theirs b o t = (part_theirs (option attendee_f) FieldValue.Attendee Field.Attendees _ b o t).value
 
 -- the writer's own entry: only the reply may be another
-own_stands : (address : Text) (b o : Option Attendee) (t : Attendee) → own address t ≡ true → Standing address t (own_entry b o (some t)).value
+own_stands : (address : Text) (b o : Option Attendee) (t : Attendee) → own address t ≡ true → Standing address t (own_entry b o (Some t)).value
 unfolding own_entry own_standing rest with_participation
-own_stands address none o t e = itself address t _ (whole_theirs none o (some t))
-own_stands address (some b) none t e = itself address t _ (whole_theirs (some b) none (some t))
-own_stands address (some b) (some o) t e =
-    rw (part_theirs attendee_f (λ r. FieldValue.Attendee (some r)) Field.Attendees (some t.address) (rest b) (rest o) (rest t)).value
+own_stands address None o t e = itself address t _ (whole_theirs None o (Some t))
+own_stands address (Some b) None t e = itself address t _ (whole_theirs (Some b) None (Some t))
+own_stands address (Some b) (Some o) t e =
+    rw (part_theirs attendee_f (λ r. FieldValue.Attendee (Some r)) Field.Attendees (Some t.address) (rest b) (rest o) (rest t)).value
     (stands (with_participation (own_reply b o t).value t) (replied e (own_reply b o t).value))
 
 -- an own entry that theirs does not have is not added
-own_none : (b o : Option Attendee) → (own_entry b o none).value ≡ none
+own_none : (b o : Option Attendee) → (own_entry b o None).value ≡ None
 unfolding own_entry own_removed
-own_none none o = whole_theirs none o none
-own_none (some b) none = whole_theirs (some b) none none
-own_none (some b) (some o) = refl
+own_none None o = whole_theirs None o None
+own_none (Some b) None = whole_theirs (Some b) None None
+own_none (Some b) (Some o) = refl
 
 -- ---- by key
 
 module _ (address : Text) (b o t : Keyed) where
-  entry_stands : (k : Key) (a : Attendee) → find t k ≡ some a → k.address ≡ to_ascii_lowercase a.address
+  entry_stands : (k : Key) (a : Attendee) → find t k ≡ Some a → k.address ≡ to_ascii_lowercase a.address
       → Standing address a (entry_at (Role.Attendee address) b o t k).value
   unfolding entry_at is_own is_owner when◌then◌else◌ own
   entry_stands k a f g = rw f (go (same_text (to_ascii_lowercase address) k.address) refl)
     where
       go : (c : Bool) → same_text (to_ascii_lowercase address) k.address ≡ c
-          → Standing address a (when c then own_entry (find b k) (find o k) (some a) else whole_entry false (find b k) (find o k) (some a)).value
+          → Standing address a (when c then own_entry (find b k) (find o k) (Some a) else whole_entry false (find b k) (find o k) (Some a)).value
       go true e = own_stands address (find b k) (find o k) a (ap (same_text (to_ascii_lowercase address)) (sym g) ∙ e)
-      go false e = itself address a _ (whole_theirs (find b k) (find o k) (some a))
+      go false e = itself address a _ (whole_theirs (find b k) (find o k) (Some a))
 
-  entry_none : (k : Key) → find t k ≡ none → (entry_at (Role.Attendee address) b o t k).value ≡ none
+  entry_none : (k : Key) → find t k ≡ None → (entry_at (Role.Attendee address) b o t k).value ≡ None
   unfolding entry_at is_owner when◌then◌else◌
   entry_none k f = rw f (elim (is_own (Role.Attendee address) k) as
-      (λ c. (when c then own_entry (find b k) (find o k) none else whole_entry false (find b k) (find o k) none).value ≡ none)
-      [ true ↦ own_none (find b k) (find o k) | false ↦ whole_theirs (find b k) (find o k) none ])
+      (λ c. (when c then own_entry (find b k) (find o k) None else whole_entry false (find b k) (find o k) None).value ≡ None)
+      [ true ↦ own_none (find b k) (find o k) | false ↦ whole_theirs (find b k) (find o k) None ])
 
   extended : (a : Attendee) (v : Option Attendee) (as' vs : List Attendee) → Standing address a v → AllStand address as' vs
       → AllStand address (a ∷ as') (extend (Role.Attendee address) b o t v vs)
   unfolding extend
-  extended a (some v) as' vs (stands v' e) s = more a v as' vs e s
-  extended a none as' vs x s = elim x [ ]
+  extended a (Some v) as' vs (stands v' e) s = more a v as' vs e s
+  extended a None as' vs x s = elim x [ ]
 
   -- the keys that only ours has give nothing
   extra : (ks : List Key) → (entries_at (Role.Attendee address) b o t (filter (λ key. not (is_some (find t key))) ks)).value ≡ []
@@ -91,20 +91,20 @@ module _ (address : Text) (b o t : Keyed) where
       go : (f : Option Attendee) → find t k ≡ f → (entries_at (Role.Attendee address) b o t (filter (λ key. not (is_some (find t key))) ks)).value ≡ []
           → (entries_at (Role.Attendee address) b o t
           (when not (is_some f) then k ∷ filter (λ key. not (is_some (find t key))) ks else filter (λ key. not (is_some (find t key))) ks)).value ≡ []
-      go (some a) f ih = ih
-      go none f ih = rw (entry_none k f, ih) refl
+      go (Some a) f ih = ih
+      go None f ih = rw (entry_none k f, ih) refl
 
 no_sum : (n : ℕ) → 1 + n ≡ 0 → ⊥
 no_sum n e = omega (arith, e)
 
 -- an entry is found by its key, where no entry before it has the same
-find_in : (pre : Keyed) (e : Key × Attendee) (l : Keyed) → hits e.0 (keys pre) ≡ 0 → find (pre ++ e ∷ l) e.0 ≡ some e.1
+find_in : (pre : Keyed) (e : Key × Attendee) (l : Keyed) → hits e.0 (keys pre) ≡ 0 → find (pre ++ e ∷ l) e.0 ≡ Some e.1
 unfolding find when◌then◌else◌ map
 find_in [] e l h = rw (same_key_self e.0) refl
 find_in (x ∷ pre) e l h = go (same_key x.0 e.0) refl (find_in pre e l)
   where
-    go : (c : Bool) → same_key x.0 e.0 ≡ c → (hits e.0 (keys pre) ≡ 0 → find (pre ++ e ∷ l) e.0 ≡ some e.1)
-        → (when c then some x.1 else find (pre ++ e ∷ l) e.0) ≡ some e.1
+    go : (c : Bool) → same_key x.0 e.0 ≡ c → (hits e.0 (keys pre) ≡ 0 → find (pre ++ e ∷ l) e.0 ≡ Some e.1)
+        → (when c then Some x.1 else find (pre ++ e ∷ l) e.0) ≡ Some e.1
     go false q ih = ih (omega (arith, h))
     go true q ih = absurd (no_sum (hits e.0 (keys pre)) (ap (λ (c : Bool). one_if c + hits e.0 (keys pre)) (sym (same_key_turned e.0 x.0 ∙ q)) ∙ h))
 
@@ -346,18 +346,18 @@ nothing_else_marked address e =
 merged_is : (base ours : NormalizedEvent) (t : ProviderEvent) (address : Text)
     → (merge base ours t (Role.Attendee address)).event
     ≡ answered t (merge_attendees (Role.Attendee address) base.attendees ours.attendees t.fields.attendees).value
-    (merge_part tag FieldValue.Reminders Field.Reminders none true base.reminders ours.reminders t.fields.reminders).value
+    (merge_part tag FieldValue.Reminders Field.Reminders None true base.reminders ours.reminders t.fields.reminders).value
 unfolding merge is_owner answered
 merged_is b o t address = rw (
-  (part_theirs (option short_text) FieldValue.Title Field.Title none b.title o.title t.fields.title).value,
-  (part_theirs tag FieldValue.Times Field.Times none b.times o.times t.fields.times).value,
-  (part_theirs (option tag) FieldValue.Recurrence Field.Recurrence none b.recurrence o.recurrence t.fields.recurrence).value,
-  (part_theirs (option organizer_f) FieldValue.Organizer Field.Organizer none b.organizer o.organizer t.fields.organizer).value,
-  (part_theirs (option short_text) FieldValue.Location Field.Location none b.location o.location t.fields.location).value,
-  (part_theirs (option tag) FieldValue.Description Field.Description none b.description o.description t.fields.description).value,
-  (part_theirs status_f FieldValue.Status Field.Status none b.status o.status t.fields.status).value,
-  (part_theirs transparency_f FieldValue.Transparency Field.Transparency none b.transparency o.transparency t.fields.transparency).value,
-  (part_theirs visibility_f FieldValue.Visibility Field.Visibility none b.visibility o.visibility t.fields.visibility).value,
+  (part_theirs (option short_text) FieldValue.Title Field.Title None b.title o.title t.fields.title).value,
+  (part_theirs tag FieldValue.Times Field.Times None b.times o.times t.fields.times).value,
+  (part_theirs (option tag) FieldValue.Recurrence Field.Recurrence None b.recurrence o.recurrence t.fields.recurrence).value,
+  (part_theirs (option organizer_f) FieldValue.Organizer Field.Organizer None b.organizer o.organizer t.fields.organizer).value,
+  (part_theirs (option short_text) FieldValue.Location Field.Location None b.location o.location t.fields.location).value,
+  (part_theirs (option tag) FieldValue.Description Field.Description None b.description o.description t.fields.description).value,
+  (part_theirs status_f FieldValue.Status Field.Status None b.status o.status t.fields.status).value,
+  (part_theirs transparency_f FieldValue.Transparency Field.Transparency None b.transparency o.transparency t.fields.transparency).value,
+  (part_theirs visibility_f FieldValue.Visibility Field.Visibility None b.visibility o.visibility t.fields.visibility).value,
 ) refl
 
 pub only_own_answer : OnlyOwnAnswer

@@ -1,10 +1,10 @@
 -- Nothing else refuses: a step only with 4, 5, 6 or 7, and a call's code names the check that gave it. That a refusal is a step's was shown
 -- on the way through every function that keeps the ids. Assumes nothing.
+use Rattle.std.specs.Prelude.{Option, Some, None}
 use Prim.Native.Nat.{ℕ, ◌≤◌}
 use native.Mathlib.Omega.{arith}
 use mathlib.Core.Path.{◌≡◌, refl, subst}
 use mathlib.Core.List.{[]}
-use mathlib.Core.Option.{Option, none, some}
 use mathlib.Core.Bool.{Bool, true, false}
 use Rattle.model.specs.Calls.{Input}
 use Rattle.model.specs.State.{SyncState}
@@ -41,7 +41,7 @@ module _ (limits : Limits) (lent : Lent) (frame : Bytes) where
   code_within (in_step l e d h r) = step_within r
   code_within (accepted l e d h) = omega arith
 
-  coded_step : (s : SyncState) (input : Input) (r : Stepped) → lengths_right limits lent ≡ true → read_state limits lent.state ≡ some s → decode frame ≡ some input
+  coded_step : (s : SyncState) (input : Input) (r : Stepped) → lengths_right limits lent ≡ true → read_state limits lent.state ≡ Some s → decode frame ≡ Some input
       → step limits s input ≡ r → Coded limits lent frame (answered limits lent r).code
   unfolding answered leaves
   coded_step s input (Stepped.Refused n) l e d h = in_step l e d h (steps_refuse_so limits s input n h)
@@ -50,9 +50,9 @@ module _ (limits : Limits) (lent : Lent) (frame : Bytes) where
   coded : (b : Bool) (o : Option SyncState) (i : Option Input) → lengths_right limits lent ≡ b → read_state limits lent.state ≡ o → decode frame ≡ i
       → Coded limits lent frame (when b then answered limits lent (match o none: Stepped.Refused 2 some: (λ s. step_frame limits s i)) else record { code = 1; length = 0; lent = lent }).code
   unfolding when◌then◌else◌ match◌none:◌some:◌ step_frame answered leaves
-  coded true none i l e d = no_state l e
-  coded true (some s) none l e d = no_input l e d
-  coded true (some s) (some input) l e d = coded_step s input (step limits s input) l e d refl
+  coded true None i l e d = no_state l e
+  coded true (Some s) None l e d = no_input l e d
+  coded true (Some s) (Some input) l e d = coded_step s input (step limits s input) l e d refl
   coded false o i l e d = wrong_length l
 
   code_only : (n : ℕ) → Coded limits lent frame n → (entry limits lent frame).code ≡ n

@@ -1,10 +1,10 @@
 -- Change request 9/13, of a step: every Update request among its effects carries the merge with the event just read, an attendee's that event but for their own
 -- answer; and a step is refused with 6 only where it merged an owner's update. Assumes nothing.
+use Rattle.std.specs.Prelude.{Option, Some, None}
 use Prim.Native.Nat.{ℕ, ◌≤◌}
 use native.Mathlib.Omega.{arith}
 use mathlib.Core.Path.{◌≡◌, refl, sym, ap, ◌∙◌, subst}
 use mathlib.Core.List.{List, [], ◌∷◌, ◌++◌}
-use mathlib.Core.Option.{Option, none, some}
 use mathlib.Core.Bool.{Bool, false}
 use lib.ListN.{length}
 use lib.Dec.{leb, T, le→leb}
@@ -32,8 +32,8 @@ use Rattle.model.proofs.OwnAnswer.{only_own_answer}
 -- ---- what the read and the queue say
 
 -- an answer that found an event is a read that found it
-found_read : (outcome : Outcome) (theirs : Option ProviderEvent) (t : ProviderEvent) → answer outcome ≡ ReadAnswer.Found theirs → theirs ≡ some t
-    → outcome ≡ Outcome.Read (some t)
+found_read : (outcome : Outcome) (theirs : Option ProviderEvent) (t : ProviderEvent) → answer outcome ≡ ReadAnswer.Found theirs → theirs ≡ Some t
+    → outcome ≡ Outcome.Read (Some t)
 unfolding answer answer_failed
 found_read (Outcome.Listed page) theirs t a e = cc
 found_read (Outcome.Read event) theirs t a e = cc
@@ -49,19 +49,19 @@ found_read (Outcome.Failed (Failure.Rejected reason)) theirs t a e = cc
 -- the head is the first entry of the queue that stands under the name
 record Heads (edits : Map ResourceId Queue) (resource : ResourceId) (p : Pending) : Type 0 where
   behind : Queue
-  waits : get by_name resource edits ≡ some (p ∷ behind)
+  waits : get by_name resource edits ≡ Some (p ∷ behind)
 
-heads : (m : Machine) (resource : ResourceId) (p : Pending) → head resource m ≡ some p → Heads m.state.edits resource p
+heads : (m : Machine) (resource : ResourceId) (p : Pending) → head resource m ≡ Some p → Heads m.state.edits resource p
 unfolding head queue_of first match◌none:◌some:◌
 heads m resource p e = go (get by_name resource m.state.edits) refl e
   where
-    go : (o : Option Queue) → get by_name resource m.state.edits ≡ o → first (match o none: [] some: (λ queue. queue)) ≡ some p → Heads m.state.edits resource p
-    go none f e = absurd (let z : ◌≡◌ {A = ℕ} 0 1 = cc in omega arith)
-    go (some []) f e = absurd (let z : ◌≡◌ {A = ℕ} 0 1 = cc in omega arith)
-    go (some (q ∷ queue)) f e = record { behind = queue; waits = cc }
+    go : (o : Option Queue) → get by_name resource m.state.edits ≡ o → first (match o none: [] some: (λ queue. queue)) ≡ Some p → Heads m.state.edits resource p
+    go None f e = absurd (let z : ◌≡◌ {A = ℕ} 0 1 = cc in omega arith)
+    go (Some []) f e = absurd (let z : ◌≡◌ {A = ℕ} 0 1 = cc in omega arith)
+    go (Some (q ∷ queue)) f e = record { behind = queue; waits = cc }
 
-few_read : (n : RequestId) (t : ProviderEvent) → input_f.Ok (Input.Outcome n (Outcome.Read (some t))) → length t.fields.attendees ≤ max_attendees
-few_read n t ok = event_few t (ok_some event_f t (read_ok (some t) (input_outcome n _ ok)))
+few_read : (n : RequestId) (t : ProviderEvent) → input_f.Ok (Input.Outcome n (Outcome.Read (Some t))) → length t.fields.attendees ≤ max_attendees
+few_read n t ok = event_few t (ok_some event_f t (read_ok (Some t) (input_outcome n _ ok)))
 
 module _ (s : SyncState) (input : Input) where
   -- an effect that may be told
@@ -171,7 +171,7 @@ module _ (s : SyncState) (input : Input) where
   }
 
   planned : (resource : ResourceId) (number : RequestId) (outcome : Outcome) (m : Machine) → input ≡ Input.Outcome number outcome → m.state.edits ≡ s.edits
-      → get by_number number s.in_flight ≡ some (Purpose.EditRead resource)
+      → get by_number number s.in_flight ≡ Some (Purpose.EditRead resource)
       → (theirs : Option ProviderEvent) → answer outcome ≡ ReadAnswer.Found theirs → Planned lively resource theirs m
   unfolding Fine
   planned resource number outcome m i same asked theirs a p base ours t h u f m' k =
@@ -230,7 +230,7 @@ module _ (s : SyncState) (input : Input) where
       branch _ (in_pass_holds calmly _ m (λ pass m h. branch _ (apply_pass_good pass m h) (read_observed_holds calmly pass m h)) h) (holds h)
 
   on_outcome_good : (rid : RequestId) (purpose : Purpose) (outcome : Outcome) (m : Machine) → input ≡ Input.Outcome rid outcome → m.state.edits ≡ s.edits
-      → get by_number rid s.in_flight ≡ some purpose → Good m → Ends Why Good (on_outcome rid purpose outcome m)
+      → get by_number rid s.in_flight ≡ Some purpose → Good m → Ends Why Good (on_outcome rid purpose outcome m)
   unfolding on_outcome
   on_outcome_good rid Purpose.List outcome m i same asked h = on_list_good _ _ m h
   on_outcome_good rid (Purpose.PassRead r) outcome m i same asked h = on_pass_read_holds calmly _ _ _ m h
@@ -239,7 +239,7 @@ module _ (s : SyncState) (input : Input) where
   on_outcome_good rid (Purpose.Refresh r) outcome m i same asked h = on_refresh_holds calmly _ _ _ m h
 
   known_outcome_good : (rid : RequestId) (purpose : Purpose) (outcome : Outcome) (m : Machine) → input ≡ Input.Outcome rid outcome → m.state ≡ s
-      → get by_number rid s.in_flight ≡ some purpose → Good m → Ends Why Good (known_outcome rid purpose outcome m)
+      → get by_number rid s.in_flight ≡ Some purpose → Good m → Ends Why Good (known_outcome rid purpose outcome m)
   unfolding known_outcome set_in_flight
   known_outcome_good rid purpose outcome m i same asked h =
       bind (on_outcome_good rid purpose outcome _ i (ap (λ (s : SyncState). s.edits) same) asked (lively.in_flight _ m h)) (λ m h. try_commit_good m h)
@@ -294,10 +294,10 @@ same_role s input r t x y =
     let a = x.answers in
     let b = y.answers in
     let numbers : x.number ≡ y.number = cc in
-    let c : get by_number y.number s.in_flight ≡ some (Purpose.EditRead r) = subst (λ (n : RequestId). get by_number n s.in_flight ≡ some (Purpose.EditRead r)) numbers x.asked in
+    let c : get by_number y.number s.in_flight ≡ Some (Purpose.EditRead r) = subst (λ (n : RequestId). get by_number n s.in_flight ≡ Some (Purpose.EditRead r)) numbers x.asked in
     let d = y.asked in
     let names : r ≡ t = cc in
-    let e : get by_name t s.edits ≡ some (x.head ∷ x.behind) = subst (λ (n : ResourceId). get by_name n s.edits ≡ some (x.head ∷ x.behind)) names x.waits in
+    let e : get by_name t s.edits ≡ Some (x.head ∷ x.behind) = subst (λ (n : ResourceId). get by_name n s.edits ≡ Some (x.head ∷ x.behind)) names x.waits in
     let f = y.waits in
     let heads : x.head ≡ y.head = cc in
     ap (λ (p : Pending). p.edit.role) heads

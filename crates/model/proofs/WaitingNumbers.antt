@@ -1,10 +1,11 @@
 -- The moves waiting and the ids of demand 3. Assumes nothing.
+use Rattle.std.specs.Prelude.{Option, Some, None}
+use Rattle.format.proofs.Options.{None-ne-Some}
 use Prim.Native.Nat.{ℕ, suc, ◌+◌, ◌*◌, ◌≤◌}
 use native.Mathlib.Omega.{arith}
 use native.Mathlib.Nat.{mul-le-mul_right}
 use mathlib.Core.Path.{◌≡◌, refl, sym, ap, ap₂, ◌∙◌}
 use mathlib.Core.List.{List, [], ◌∷◌, ◌++◌}
-use mathlib.Core.Option.{Option, none, some, none-ne-some}
 use mathlib.Core.Bool.{true, false}
 use mathlib.Core.Logic.{◌↔◌}
 use lib.ListN.{length, length-append}
@@ -75,11 +76,11 @@ counts_sum (e ∷ m) t =
 
 -- ---- none where there is no queue
 
-zero_is : (o : Option Queue) → ((q : Queue) → o ≡ some q → needs q ≡ 1) → ((match o none: 0 some: size) ≡ 0) ↔ (o ≡ none)
+zero_is : (o : Option Queue) → ((q : Queue) → o ≡ Some q → needs q ≡ 1) → ((match o none: 0 some: size) ≡ 0) ↔ (o ≡ None)
 unfolding match◌none:◌some:◌ queue_ids ids_of
-zero_is none h = (λ e. refl, λ e. refl)
-zero_is (some []) h = absurd (let e = h [] refl in omega arith)
-zero_is (some (p ∷ q)) h = (λ e. absurd (omega arith), λ e. absurd (none-ne-some (p ∷ q) (sym e)))
+zero_is None h = (λ e. refl, λ e. refl)
+zero_is (Some []) h = absurd (let e = h [] refl in omega arith)
+zero_is (Some (p ∷ q)) h = (λ e. absurd (omega arith), λ e. absurd (None-ne-Some (p ∷ q) (sym e)))
 
 -- ---- so many at most
 

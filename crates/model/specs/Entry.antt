@@ -1,6 +1,5 @@
 -- docs/FRAMES.md, "The entry": what a call of `step` answers and what it leaves in the lent buffers, for all bytes. Assumes nothing.
-use Rattle.std.specs.Prelude.{ℕ, ◌-◌, ◌≡◌, [], ◌++◌, Bool, ◌&&◌, leb, eqb}
-use Rattle.std.proofs.Math.Option.{Option, none, some}
+use Rattle.std.specs.Prelude.{ℕ, ◌-◌, ◌≡◌, [], ◌++◌, Bool, ◌&&◌, leb, eqb, Option, Some, None}
 use Rattle.std.proofs.Math.ListN
 use Rattle.format.specs.Format.{whole_of, zeros}
 use Rattle.model.specs.Calls.{Input}
@@ -49,8 +48,8 @@ unfoldable pub decode : Bytes → Option Input
 decode frame = whole_of input_f frame
 
 unfoldable pub step_frame : Limits → SyncState → Option Input → Stepped
-step_frame limits s none = Stepped.Refused 3
-step_frame limits s (some input) = step limits s input
+step_frame limits s None = Stepped.Refused 3
+step_frame limits s (Some input) = step limits s input
 
 -- after every call but one refused with 1: work is zero, and the output past the effects
 unfoldable pub leaves : ℕ → Bytes → Bytes → Lent → Returned

@@ -1,8 +1,7 @@
 -- The bytes of a state in its buffer: parts of fixed widths, one after the other, in the order of `SyncState`'s fields. A value
 -- stands in the frame's own form with zeros behind it; a table is a count, its entries in key order and zeros; an entry starts with its
 -- key. `state_layout` reads the bytes of well-formed states and no others. LayoutLaws.antt proves it lawful. Assumes nothing.
-use Rattle.std.specs.Prelude.{ℕ, ◌+◌, ◌*◌, ◌≡◌, List as Vec, [], ◌∷◌, ◌++◌, Bool, eqb}
-use Rattle.std.proofs.Math.Option.{Option}
+use Rattle.std.specs.Prelude.{ℕ, ◌+◌, ◌*◌, ◌≡◌, List as Vec, [], ◌∷◌, ◌++◌, Bool, eqb, Option}
 use Rattle.format.specs.Format.{Format, map_got, ◌⊗◌, via, option, bool, below, list, such, padded, stamp}
 use Rattle.model.specs.Seam.{RequestId, ResourceId}
 use Rattle.model.specs.Parts.{Role, Conflict, Refused}

@@ -1,7 +1,6 @@
 -- Change request 1/13: the clerk's own lines, and the corners of the number of moves waiting. MovesCounted.antt of proofs/ has the theorem. Assumes nothing.
-use Rattle.std.specs.Prelude.{◌≡◌, ℕ, zero, suc, List, [], ◌∷◌, length}
+use Rattle.std.specs.Prelude.{◌≡◌, ℕ, zero, suc, List, [], ◌∷◌, length, None}
 use Prim.Native.String.{String}
-use Rattle.std.proofs.Math.Option.{none}
 use Rattle.model.specs.Event.{ascii}
 use Rattle.model.specs.Parts.{Role}
 use Rattle.model.specs.Edits.{Operation, Edit}
@@ -17,7 +16,7 @@ move n = record {
   resource = ascii "r";
   operation = Operation.Update (fields_at n) (fields_at (suc n));
   role = Role.Owner;
-  expires_at = none;
+  expires_at = None;
 }
 
 -- a slot moved so many times

@@ -1,7 +1,6 @@
 -- Change request 9/13: an attendee changes only their own answer. What that says of two events, value by value and byte by byte; of a merge; and of a
 -- step. Assumes nothing.
-use Rattle.std.specs.Prelude.{ℕ, ◌+◌, ◌≡◌, List, [], ◌∷◌, ◌++◌, Bool, true, false, length}
-use Rattle.std.proofs.Math.Option.{Option, some}
+use Rattle.std.specs.Prelude.{ℕ, ◌+◌, ◌≡◌, List, [], ◌∷◌, ◌++◌, Bool, true, false, length, Option, Some}
 use Rattle.format.specs.Format.{option}
 use Rattle.model.specs.Event.{Text, ProviderRevision, Attendee, NormalizedEvent, ProviderEvent}
 use Rattle.model.specs.Seam.{RequestId, ResourceId, Request, Outcome}
@@ -133,11 +132,11 @@ OnlyOwnAnswer = (base ours : NormalizedEvent) (theirs : ProviderEvent) (address 
 pub record UpdateRead (s : SyncState) (input : Input) (resource : ResourceId) : Type 0 where
   pub number : RequestId
   pub theirs : ProviderEvent
-  pub answers : input ≡ Input.Outcome number (Outcome.Read (some theirs))
-  pub asked : get by_number number s.in_flight ≡ some (Purpose.EditRead resource)
+  pub answers : input ≡ Input.Outcome number (Outcome.Read (Some theirs))
+  pub asked : get by_number number s.in_flight ≡ Some (Purpose.EditRead resource)
   pub head : Pending
   pub behind : Queue
-  pub waits : get by_name resource s.edits ≡ some (head ∷ behind)
+  pub waits : get by_name resource s.edits ≡ Some (head ∷ behind)
   pub base : NormalizedEvent
   pub ours : NormalizedEvent
   pub update : head.edit.operation ≡ Operation.Update base ours

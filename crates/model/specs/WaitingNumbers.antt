@@ -1,6 +1,5 @@
 -- Change request 1/13: the moves waiting. What their numbers say of the ids on the waiting side of demand 3. Assumes nothing.
-use Rattle.std.specs.Prelude.{◌≡◌, suc, ◌*◌, ◌≤◌, ◌↔◌, length}
-use Rattle.std.proofs.Math.Option.{none}
+use Rattle.std.specs.Prelude.{◌≡◌, suc, ◌*◌, ◌≤◌, ◌↔◌, length, None}
 use Rattle.model.specs.Seam.{ResourceId}
 use Rattle.model.specs.Edits.{EditId}
 use Rattle.model.specs.State.{SyncState}
@@ -17,7 +16,7 @@ pub record WaitingNumbers (limits : Limits) (s : SyncState) : Type 0 where
   -- the sum over all bookings is the length of that list
   pub summed : sum (map (λ resource. moves_waiting resource s) (keys s.edits)) ≡ length (waiting_ids s)
   -- a booking's count is 0 exactly where it has no queue
-  pub none_waits : (resource : ResourceId) → (moves_waiting resource s ≡ 0) ↔ (get by_name resource s.edits ≡ none)
+  pub none_waits : (resource : ResourceId) → (moves_waiting resource s ≡ 0) ↔ (get by_name resource s.edits ≡ None)
   -- so many at most: each entry's own, and those folded into it
   pub few : length (waiting_ids s) ≤ limits.waiting * suc limits.absorbed
 

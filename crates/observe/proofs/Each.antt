@@ -1,13 +1,20 @@
 -- A loop over a list that was taken at the start. Assumes nothing.
-use Prim.Native.Nat.{ℕ, suc, ◌+◌, ◌<◌}
+use Prim.Native.Nat.{ℕ, suc, ◌+◌, ◌≤◌, ◌<◌}
 use native.Mathlib.Omega.{arith}
-use mathlib.Core.Path.{◌≡◌, refl, sym, ap, ◌∙◌}
+use mathlib.Core.Path.{◌≡◌, refl, sym, ap, ◌∙◌, subst}
 use mathlib.Core.List.{List, [], ◌∷◌, ◌++◌}
 use lib.ListN.{length, take, get_or}
 use lib.Seq.{take-suc, take_all}
 use Rattle.model.specs.Machine.{Machine, Run, refused, ok, ◌>>=◌, for_each}
+use Rattle.model.specs.Event.{Text}
+use Rattle.model.specs.Seam.{ResourceId}
 use Rattle.model.specs.State.{SyncState}
-use Rattle.state.specs.Contract.{Keeps, HasState}
+use Rattle.model.specs.Maps.{map}
+use Rattle.model.proofs.Fitting.{length-map}
+use Rattle.state.specs.Layout.{name_slot}
+use Rattle.state.specs.Values.{name_of}
+use Rattle.state.proofs.Names.{names_back, name_there}
+use Rattle.state.specs.Contract.{Keeps, HasState, Reads}
 use Rattle.machine.specs.declared.Progress.{Progress}
 use Rattle.machine.specs.Contract.{Does}
 use Rattle.machine.proofs.Runs as runs
@@ -52,3 +59,24 @@ for_state f g K d = record {
   stays = (d K.state K.keeps).stays;
   state = (d K.state K.keeps).state;
 }
+
+-- a function called for each name of a list by value
+module _ (f : ResourceId → Machine → Run) (names : List (List ℕ)) where
+  pub names_turn : (i : ℕ) (b : List ℕ) {w o w₁ o₁ w₂ o₂ : List ℕ} {p q s : Progress} → i < length names → b ≡ get_or names i [] → Does (for_each f (take i (map name_of names))) w o p q w₁ o₁
+      → Does (f (name_of b)) w₁ o₁ q s w₂ o₂ → Does (for_each f (take (i + 1) (map name_of names))) w o p s w₂ o₂
+  names_turn i b {w₁ = w₁} {o₁} {w₂} {o₂} {q = q} {s} h e D E =
+      let n : name_of b ≡ get_or (map name_of names) i [] = ap name_of e ∙ sym (name_there names i h) in
+      each_turn f (map name_of names) [] i (subst (λ (k : ℕ). i < k) (sym (length-map name_of names)) h) D (subst (λ (r : Text). Does (f r) w₁ o₁ q s w₂ o₂) n E)
+
+  pub names_end : (i : ℕ) {w o w₁ o₁ : List ℕ} {p q : Progress} → length names ≤ i → Does (for_each f (take i (map name_of names))) w o p q w₁ o₁ → Does (for_each f (map name_of names)) w o p q w₁ o₁
+  names_end i h D =
+      let t : take i (map name_of names) ≡ map name_of names = take_all i (map name_of names) (subst (λ (k : ℕ). k ≤ i) (sym (length-map name_of names)) h) in
+      runs.is (for_each f (map name_of names)) (λ m. ap (λ (x : List Text). for_each f x m) t) D
+
+  -- the names are those of a list that was read off the state
+  pub names_are : (l : List Text) {w o w' o' : List ℕ} {p q : Progress} → names ≡ map name_slot l → Does (for_each f (map name_of names)) w o p q w' o' → Does (for_each f l) w o p q w' o'
+  names_are l e D = runs.is (for_each f l) (λ m. ap (λ (x : List Text). for_each f x m) (ap (map name_of) e ∙ names_back l)) D
+
+  -- and the list was read before anything was done
+  pub names_read : (g : SyncState → List Text) {w o w' o' : List ℕ} {p q : Progress} → HasState w → Reads (λ s. map name_slot (g s)) w names → Does (for_each f (map name_of names)) w o p q w' o' → Does (λ m. for_each f (g m.state) m) w o p q w' o'
+  names_read g H R D = for_state (for_each f) g H (λ s h. names_are (g s) (R.is s h) D)

@@ -1,9 +1,10 @@
 -- `forget_settled` and `forget_aliases`. Assumes nothing.
+use Rattle.std.specs.Prelude.{Option, Some, None, Result, Ok, Err, is_ok, is_some as option_is_some}
+use Rattle.format.proofs.Options.{Some-injective, None-ne-Some}
 use Prim.Native.Nat.{ℕ, ◌+◌, ◌-◌, ◌≤◌, ◌<◌, Ordering}
 use native.Mathlib.Omega.{arith}
 use mathlib.Core.Path.{◌≡◌, refl, sym, ap, ap₂, ◌∙◌, subst}
 use mathlib.Core.List.{List, [], ◌∷◌, ◌++◌}
-use mathlib.Core.Option.{Option, none, some, some-injective, none-ne-some}
 use mathlib.Core.Bool.{Bool, true, false, ◌||◌}
 use mathlib.Core.Logic.{inl, inr}
 use lib.ListN.{length, get_or}
@@ -12,8 +13,6 @@ use lib.Seq.{get_or-append_seam}
 use borrow.Author.Tests.{le-leb, lt-leb}
 use Rattle.format.specs.Format.{All}
 use Rattle.tables.specs.Table.{Table, Sized, enc_table, text, place}
-use Rattle.tables.specs.declared.Place.{Place}
-use Rattle.tables.specs.declared.Place.TheVariants.{Found, Missing}
 use Rattle.lent.specs.Lent.{part}
 use Rattle.model.specs.Event.{Text}
 use Rattle.model.specs.Seam.{ResourceId}
@@ -29,9 +28,7 @@ use Rattle.state.specs.Layout.{name_slot, pass_of, no_pass}
 use Rattle.state.specs.Setters.{with_learned, with_learned_all, with_aliases}
 use Rattle.state.specs.Fits.{QueueFits}
 use Rattle.state.specs.Contract.{Keeps, HasState, Reads, Edits}
-use Rattle.state.specs.Values.{name_of, Named, number_in}
-use Rattle.state.specs.declared.Numbered.{Numbered}
-use Rattle.state.specs.declared.Numbered.TheVariants as numbered
+use Rattle.state.specs.Values.{name_of, Named}
 use Rattle.state.proofs.Padded.{text_name_only}
 use Rattle.state.proofs.Columns as columns
 use Rattle.state.proofs.Ops as ops
@@ -54,8 +51,8 @@ forget_settled_is m = go (first (keys m.state.in_flight))
     two n false = refl
 
     go : (o : Option ℕ) → with_state (match o none: with_learned_all 0 (with_learned [] m.state) some: (λ oldest. settled_before oldest m.state)) m ≡ (match o none: forget_all m some: (λ oldest. forget_before oldest m))
-    go none = refl
-    go (some n) = two n (leb m.state.learned_all n)
+    go None = refl
+    go (Some n) = two n (leb m.state.learned_all n)
 
 pub forget_aliases_is : (m : Machine) → with_state (with_held_aliases m.state) m ≡ forget_aliases m
 unfolding forget_aliases held_anywhere in_flight_any retain set_aliases
@@ -81,47 +78,41 @@ before_all n {w} {w₁} {w₂} {a} E R l F = record {
       subst (λ (b : Bool). Keeps (when b then with_learned_all 0 (learned_after n s) else learned_after n s) w₂) (sym z) (F.makes (learned_after n s) k);
 }
 
-pub settled_none : {w w₁ w₂ : List ℕ} {r : Numbered} → Reads (λ s. first (keys s.in_flight)) w (number_in r) → r ≡ numbered.Nothing → Edits (with_learned []) w w₁ → Edits (with_learned_all 0) w₁ w₂ → Edits settled w w₂
+pub settled_none : {w w₁ w₂ : List ℕ} {r : Option ℕ} → Reads (λ s. first (keys s.in_flight)) w r → r ≡ None → Edits (with_learned []) w w₁ → Edits (with_learned_all 0) w₁ w₂ → Edits settled w w₂
 unfolding match◌none:◌some:◌
 settled_none {w} {w₁} {w₂} R z E F = record {
   makes = λ s h.
-      let e : first (keys s.in_flight) ≡ none = sym (R.is s h) ∙ ap number_in z in
+      let e : first (keys s.in_flight) ≡ None = sym (R.is s h) ∙ z in
       subst (λ (o : Option ℕ). Keeps (match o none: with_learned_all 0 (with_learned [] s) some: (λ oldest. settled_before oldest s)) w₂) (sym e) (F.makes (with_learned [] s) (E.makes s h));
 }
 
-pub settled_some : (n : ℕ) {w w₁ : List ℕ} {r : Numbered} → Reads (λ s. first (keys s.in_flight)) w (number_in r) → r ≡ numbered.Is n → Edits (settled_before n) w w₁ → Edits settled w w₁
+pub settled_some : (n : ℕ) {w w₁ : List ℕ} {r : Option ℕ} → Reads (λ s. first (keys s.in_flight)) w r → r ≡ Some n → Edits (settled_before n) w w₁ → Edits settled w w₁
 unfolding match◌none:◌some:◌
 settled_some n {w} {w₁} R z E = record {
   makes = λ s h.
-      let e : first (keys s.in_flight) ≡ some n = sym (R.is s h) ∙ ap number_in z in
+      let e : first (keys s.in_flight) ≡ Some n = sym (R.is s h) ∙ z in
       subst (λ (o : Option ℕ). Keeps (match o none: with_learned_all 0 (with_learned [] s) some: (λ oldest. settled_before oldest s)) w₁) (sym e) (E.makes s h);
 }
 
 -- ---- whether a resource is held
 
-pub has_found : (r : Text) {w : List ℕ} {pl : Place} (at : ℕ) → FindsRecord r w pl → pl ≡ Found at → Reads (λ s. is_some (get by_name r s.records)) w true
+pub has_found : (r : Text) (w : List ℕ) (pl : Option ℕ) → FindsRecord r w pl → Reads (λ s. is_some (get by_name r s.records)) w (option_is_some pl)
 unfolding RecordIs is_some
-has_found r {w} at F q = record { is = λ s h. let R : RecordAt r w s at = subst (λ (x : Place). RecordIs r w s x) q (F.is s h) in sym (ap is_some R.got) }
+has_found r w (Some at) F = record { is = λ s h. let R : RecordAt r w s at = F.is s h in sym (ap is_some R.got) }
+has_found r w None F = record { is = λ s h. sym (ap is_some (F.is s h)) }
 
-pub has_missing : (r : Text) {w : List ℕ} {pl : Place} (at : ℕ) → FindsRecord r w pl → pl ≡ Missing at → Reads (λ s. is_some (get by_name r s.records)) w false
-unfolding RecordIs is_some
-has_missing r {w} at F q = record { is = λ s h. let R : get by_name r s.records ≡ none = subst (λ (x : Place). RecordIs r w s x) q (F.is s h) in sym (ap is_some R) }
-
-pub staged_found : (b w : List ℕ) (p : ℕ) → Named b → ((t : Table) → Sized 916 t → part 9221 9161 w ≡ enc_table 9161 t → Found p ≡ place 916 b t 1) → Reads (λ s. is_some (get by_name (name_of b) (staged_of s))) w true
+pub staged_found : (b w : List ℕ) (r : Result ℕ ℕ) → Named b → ((t : Table) → Sized 916 t → part 9221 9161 w ≡ enc_table 9161 t → r ≡ place 916 b t 1) → Reads (λ s. is_some (get by_name (name_of b) (staged_of s))) w (is_ok r)
 unfolding is_some
-staged_found b w p N g = record { is = λ s h. sym (ap is_some (columns.there staged.staged_column b w (name_of b) p N.ok refl s h g).got) }
-
-pub staged_missing : (b w : List ℕ) (p : ℕ) → Named b → ((t : Table) → Sized 916 t → part 9221 9161 w ≡ enc_table 9161 t → Missing p ≡ place 916 b t 1) → Reads (λ s. is_some (get by_name (name_of b) (staged_of s))) w false
-unfolding is_some
-staged_missing b w p N g = record { is = λ s h. sym (ap is_some (columns.not_there staged.staged_column b w (name_of b) p N.ok refl s h g)) }
+staged_found b w (Ok p) N g = record { is = λ s h. sym (ap is_some (columns.there staged.staged_column b w (name_of b) p N.ok refl s h g).got) }
+staged_found b w (Err p) N g = record { is = λ s h. sym (ap is_some (columns.not_there staged.staged_column b w (name_of b) p N.ok refl s h g)) }
 
 in_pass_is : (r : ResourceId) (s : SyncState) → (is_some (get by_name r (staged_of s)) || has r (pass_of s.pass).observed) ≡ held_in_pass r s
 unfolding is_some is_some_and pass_of no_pass get has any
 in_pass_is r s = go s.pass
   where
     go : (o : Option Pass) → (is_some (get by_name r (pass_of o).staged) || has r (pass_of o).observed) ≡ is_some_and (λ pass. is_some (get by_name r pass.staged) || has r pass.observed) o
-    go none = refl
-    go (some p) = refl
+    go None = refl
+    go (Some p) = refl
 
 pub in_pass_staged : (r : ResourceId) {w : List ℕ} {a : Bool} → Reads (λ s. is_some (get by_name r (staged_of s))) w a → a ≡ true → Reads (held_in_pass r) w true
 in_pass_staged r A z = record { is = λ s h. sym (ap (λ (x : Bool). x || has r (pass_of s.pass).observed) (sym (A.is s h) ∙ z)) ∙ in_pass_is r s }
@@ -149,8 +140,8 @@ unfolding queue_in match◌none:◌some:◌ is_some
 queue_some r s n e z = go (get by_name r s.edits) e
   where
     go : (o : Option Queue) → n ≡ length (match o none: [] some: (λ q. q)) → is_some o ≡ true
-    go none e = absurd (z e)
-    go (some q) e = refl
+    go None e = absurd (z e)
+    go (Some q) e = refl
 
 module _ (r : ResourceId) {w : List ℕ} {a : Bool} (A : Reads (λ s. is_some (get by_name r s.records)) w a) where
   pub held_record : a ≡ true → Reads (held_in r) w true
@@ -167,14 +158,14 @@ held_asked r C z = record {
 }
 
 -- no queue is empty
-queue_long : (r : ResourceId) (m : Map ResourceId Queue) → All (QueueFits document01) m → (q : Queue) → get by_name r m ≡ some q → 0 < length q
+queue_long : (r : ResourceId) (m : Map ResourceId Queue) → All (QueueFits document01) m → (q : Queue) → get by_name r m ≡ Some q → 0 < length q
 unfolding get by
-queue_long r [] a q e = absurd (none-ne-some q e)
+queue_long r [] a q e = absurd (None-ne-Some q e)
 queue_long r (x ∷ m) a q e = go (by_name r x.0) e (λ d. queue_long r m a.1 q d)
   where
-    go : (o : Ordering) → by o none (some x.1) (get by_name r m) ≡ some q → (get by_name r m ≡ some q → 0 < length q) → 0 < length q
-    go Ordering.lt e f = absurd (none-ne-some q e)
-    go Ordering.eq e f = subst (λ (y : Queue). 0 < length y) (some-injective x.1 q e) a.0.some
+    go : (o : Ordering) → by o None (Some x.1) (get by_name r m) ≡ Some q → (get by_name r m ≡ Some q → 0 < length q) → 0 < length q
+    go Ordering.lt e f = absurd (None-ne-Some q e)
+    go Ordering.eq e f = subst (λ (y : Queue). 0 < length y) (Some-injective x.1 q e) a.0.some
     go Ordering.gt e f = f e
 
 queue_none : (r : ResourceId) (s : SyncState) (n : ℕ) → All (QueueFits document01) s.edits → n ≡ length (queue r s) → n ≡ 0 → is_some (get by_name r s.edits) ≡ false
@@ -182,8 +173,8 @@ unfolding queue_in match◌none:◌some:◌ is_some
 queue_none r s n a e z = go (get by_name r s.edits) refl e
   where
     go : (o : Option Queue) → get by_name r s.edits ≡ o → n ≡ length (match o none: [] some: (λ q. q)) → is_some o ≡ false
-    go none g e = refl
-    go (some q) g e = absurd (let l : 0 < length q = queue_long r s.edits a q g in let k : n ≡ length q = e in omega arith)
+    go None g e = refl
+    go (Some q) g e = absurd (let l : 0 < length q = queue_long r s.edits a q g in let k : n ≡ length q = e in omega arith)
 
 pub held_pass : (r : ResourceId) {w : List ℕ} {a c d : Bool} {n : ℕ} → Reads (λ s. is_some (get by_name r s.records)) w a → a ≡ false → Reads (λ s. length (queue r s)) w n → n ≡ 0
     → Reads (λ s. any (asks_about r) (values s.in_flight)) w c → c ≡ false → Reads (held_in_pass r) w d → Reads (held_in r) w d
@@ -254,11 +245,17 @@ held_entry s e = held_in e.1 s
 abbrev pub Retaining : List ℕ → List ℕ → ℕ → ℕ → Type 0
 Retaining = retaining.Retaining (λ s. s.aliases) with_aliases held_entry
 
-pub retain_start : (w : List ℕ) (n : ℕ) → Reads (λ s. length s.aliases) w n → Retaining w w 0 n
-retain_start w n R = retaining.retain_start w n (λ s h. h) R
+-- after k turns of n
+pub retain_start : (w : List ℕ) (n : ℕ) → Reads (λ s. length s.aliases) w n → Retaining w w 0 (n - 0)
+retain_start w n R =
+    let z : n ≡ n - 0 = omega arith in
+    subst (λ (x : ℕ). Retaining w w 0 x) z (retaining.retain_start w n (λ s h. h) R)
 
-pub retain_below : (w₀ w : List ℕ) (i left : ℕ) → HasState w₀ → Retaining w₀ w i left → 0 < left → i < get_or w 58014 0
-retain_below w₀ w i left K R l = retaining.retain_below w₀ w i left (get_or w 58014 0) (λ s m. refl) K R l (record { is = λ s h. columns.counted ops.alias_column s w h })
+pub retain_below : (w₀ w : List ℕ) (i n k : ℕ) → HasState w₀ → Retaining w₀ w i (n - k) → k < n → i < get_or w 58014 0
+retain_below w₀ w i n k K R l = retaining.retain_below w₀ w i (n - k) (get_or w 58014 0) (λ s m. refl) K R (omega arith) (record { is = λ s h. columns.counted ops.alias_column s w h })
 
-pub retain_turn : (w₀ w w' : List ℕ) (i left r : ℕ) → Retaining w₀ w i left → 0 < left → Tested i w r w' → Retaining w₀ w' r (left - 1)
-retain_turn w₀ w w' i left r R l T = retaining.retain_turn w₀ w w' i left r R l (λ s kept rest e h a. T.is (with_aliases (kept ++ (e ∷ rest)) s) h kept rest e refl a)
+pub retain_turn : (w₀ w w' : List ℕ) (i n k r : ℕ) → Retaining w₀ w i (n - k) → k < n → Tested i w r w' → Retaining w₀ w' r (n - (k + 1))
+retain_turn w₀ w w' i n k r R l T =
+    let z : n - k - 1 ≡ n - (k + 1) = omega arith in
+    subst (λ (x : ℕ). Retaining w₀ w' r x) z
+    (retaining.retain_turn w₀ w w' i (n - k) r R (omega arith) (λ s kept rest e h a. T.is (with_aliases (kept ++ (e ∷ rest)) s) h kept rest e refl a))

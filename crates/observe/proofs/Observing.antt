@@ -1,14 +1,12 @@
 -- `put_record` and `observe`. Assumes nothing.
+use Rattle.std.specs.Prelude.{Option, Some, None}
 use Prim.Native.Nat.{ℕ, ◌+◌, ◌≤◌}
 use native.Mathlib.Omega.{arith}
 use mathlib.Core.Path.{◌≡◌, refl, sym, ap, ◌∙◌, subst}
 use mathlib.Core.List.{List, [], append-nil}
-use mathlib.Core.Option.{Option, none, some}
 use mathlib.Core.Bool.{Bool, true, false}
 use lib.ListN.{length}
 use lib.Dec.{leb}
-use Rattle.tables.specs.declared.Place.{Place}
-use Rattle.tables.specs.declared.Place.TheVariants.{Found, Missing}
 use Rattle.model.specs.Event.{Text, ProviderEvent}
 use Rattle.model.specs.Seam.{ResourceId, resource_of}
 use Rattle.model.specs.State.{Pass, SyncState}
@@ -36,20 +34,20 @@ use Rattle.observe.proofs.Each as each
 -- ---- put_record
 
 -- the record that was found
-found_is : (r : Text) (w : List ℕ) (pl : Place) (at : ℕ) → FindsRecord r w pl → pl ≡ Found at → (s : SyncState) → Keeps s w → RecordAt r w s at
+found_is : (r : Text) (w : List ℕ) (pl : Option ℕ) (at : ℕ) → FindsRecord r w pl → pl ≡ Some at → (s : SyncState) → Keeps s w → RecordAt r w s at
 unfolding RecordIs
-found_is r w pl at F e s h = subst (λ (x : Place). RecordIs r w s x) e (F.is s h)
+found_is r w pl at F e s h = subst (λ (x : Option ℕ). RecordIs r w s x) e (F.is s h)
 
-pub held_stands : (r : Text) (w : List ℕ) (pl : Place) (at : ℕ) → HasState w → FindsRecord r w pl → pl ≡ Found at → HasEvent w (at + 33)
+pub held_stands : (r : Text) (w : List ℕ) (pl : Option ℕ) (at : ℕ) → HasState w → FindsRecord r w pl → pl ≡ Some at → HasEvent w (at + 33)
 held_stands r w pl at K F e = let R = found_is r w pl at F e K.state K.keeps in record { event = R.event; stands = versions.stands_padded R.event w (at + 33) R.ok R.bytes }
 
-pub held_room : (r : Text) (w : List ℕ) (pl : Place) (at : ℕ) → HasState w → FindsRecord r w pl → pl ≡ Found at → at + 33 ≤ state_length
+pub held_room : (r : Text) (w : List ℕ) (pl : Option ℕ) (at : ℕ) → HasState w → FindsRecord r w pl → pl ≡ Some at → at + 33 ≤ state_length
 held_room r w pl at K F e =
     let h = versions.event_room w (at + 33) (held_stands r w pl at K F e) in
     let l = K.keeps.long in
     omega arith
 
-pub gives_found : (r : Text) (e : ProviderEvent) (w : List ℕ) (pl : Place) (at : ℕ) (a : Bool) (revision : List ℕ) (mapper : ℕ) → FindsRecord r w pl → pl ≡ Found at
+pub gives_found : (r : Text) (e : ProviderEvent) (w : List ℕ) (pl : Option ℕ) (at : ℕ) (a : Bool) (revision : List ℕ) (mapper : ℕ) → FindsRecord r w pl → pl ≡ Some at
     → ((h : ProviderEvent) → Stands h w (at + 33) → VersionOf h revision mapper) → ((h : ProviderEvent) → event_f.Ok h → VersionOf h revision mapper → a ≡ replaces e h) → Reads (gives_way r e) w a
 unfolding match◌none:◌some:◌
 gives_found r e w pl at a revision mapper F q f g = record {
@@ -59,10 +57,10 @@ gives_found r e w pl at a revision mapper F q f g = record {
       ∙ sym (ap (λ (o : Option ProviderEvent). match o none: true some: (λ held. replaces e held)) R.got);
 }
 
-pub gives_missing : (r : Text) (e : ProviderEvent) (w : List ℕ) (pl : Place) (at : ℕ) → FindsRecord r w pl → pl ≡ Missing at → Reads (gives_way r e) w true
+pub gives_missing : (r : Text) (e : ProviderEvent) (w : List ℕ) (pl : Option ℕ) → FindsRecord r w pl → pl ≡ None → Reads (gives_way r e) w true
 unfolding match◌none:◌some:◌ RecordIs
-gives_missing r e w pl at F q = record {
-  is = λ s h. sym (ap (λ (o : Option ProviderEvent). match o none: true some: (λ held. replaces e held)) (subst (λ (x : Place). RecordIs r w s x) q (F.is s h)));
+gives_missing r e w pl F q = record {
+  is = λ s h. sym (ap (λ (o : Option ProviderEvent). match o none: true some: (λ held. replaces e held)) (subst (λ (x : Option ℕ). RecordIs r w s x) q (F.is s h)));
 }
 
 -- the event at the front of its own bytes
@@ -95,9 +93,9 @@ change_is : (f : Pass → Pass) (m : Machine) → change_pass f m ≡ with_state
 unfolding change_pass pass_changed match◌none:◌some:◌ set_pass
 change_is f m = go m.state.pass
   where
-    go : (o : Option Pass) → (match o none: m some: (λ pass. set_pass (some (f pass)) m)) ≡ with_state (match o none: m.state some: (λ pass. with_pass (some (f pass)) m.state)) m
-    go none = refl
-    go (some p) = refl
+    go : (o : Option Pass) → (match o none: m some: (λ pass. set_pass (Some (f pass)) m)) ≡ with_state (match o none: m.state some: (λ pass. with_pass (Some (f pass)) m.state)) m
+    go None = refl
+    go (Some p) = refl
 
 pub unstage_is : (r : ResourceId) (m : Machine) → unstage r m ≡ with_state (without_stage r m.state) m
 unfolding unstage
@@ -166,13 +164,13 @@ observes_none r E F C G = record {
       (runs.next (C.does o) (runs.last_edit G))));
 }
 
-pub observes_some : (r : ResourceId) (e : ProviderEvent) {w w₁ w₂ : List ℕ} {p q s : Progress} → Changes (learn r) w p q w₁ → Changes (observe_event r e) w₁ q s w₂ → Changes (observe r (some e)) w p s w₂
+pub observes_some : (r : ResourceId) (e : ProviderEvent) {w w₁ w₂ : List ℕ} {p q s : Progress} → Changes (learn r) w p q w₁ → Changes (observe_event r e) w₁ q s w₂ → Changes (observe r (Some e)) w p s w₂
 unfolding observe match◌none:◌some:◌
-observes_some r e L C = record { does = λ o. runs.is (observe r (some e)) (λ m. refl) (runs.next (L.does o) (C.does o)) }
+observes_some r e L C = record { does = λ o. runs.is (observe r (Some e)) (λ m. refl) (runs.next (L.does o) (C.does o)) }
 
-pub observes_gone : (r : ResourceId) {w w₁ w₂ : List ℕ} {p q s : Progress} → Changes (learn r) w p q w₁ → Changes (observe_none r) w₁ q s w₂ → Changes (observe r none) w p s w₂
+pub observes_gone : (r : ResourceId) {w w₁ w₂ : List ℕ} {p q s : Progress} → Changes (learn r) w p q w₁ → Changes (observe_none r) w₁ q s w₂ → Changes (observe r None) w p s w₂
 unfolding observe match◌none:◌some:◌
-observes_gone r L C = record { does = λ o. runs.is (observe r none) (λ m. refl) (runs.next (L.does o) (C.does o)) }
+observes_gone r L C = record { does = λ o. runs.is (observe r None) (λ m. refl) (runs.next (L.does o) (C.does o)) }
 
 -- HasState after a Changes
 pub still : {f : Machine → Run} {w w' : List ℕ} {p q : Progress} → Changes f w p q w' → HasState w → HasState w'

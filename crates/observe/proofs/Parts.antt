@@ -1,8 +1,9 @@
 -- Names and events that stand in bytes: what the functions that take them out answer. Assumes nothing.
+use Rattle.std.specs.Prelude.{Option, Some, None}
+use Rattle.format.proofs.Options.{Some-injective, None-ne-Some}
 use Prim.Native.Nat.{ℕ}
 use mathlib.Core.Path.{◌≡◌, sym, ap, ◌∙◌, subst}
 use mathlib.Core.List.{List, [], ◌++◌, append_assoc}
-use mathlib.Core.Option.{Option, none, some, some-injective, none-ne-some}
 use mathlib.Core.Bool.{Bool, true}
 use lib.ListN.{drop}
 use Rattle.format.specs.Format.{Got, option, via, ◌⊗◌, enum, ◌∣◌, below}
@@ -58,25 +59,25 @@ found_is s p next v M k =
     let o : next.ok ≡ true = (stood.option_event_stands s p next M.place k).0 in
     go ((option event_f).dec (drop p s)) (ap (λ (b : Bool). kept b v) (sym o) ∙ M.is)
   where
-    go : (x : Got (Option ProviderEvent)) → kept true v ≡ value_in x → value_of (some no_event) x ≡ v
-    go none q = absurd (none-ne-some v (sym q))
-    go (some r) q = some-injective r.0 v (sym q)
+    go : (x : Got (Option ProviderEvent)) → kept true v ≡ value_in x → value_of (Some no_event) x ≡ v
+    go None q = absurd (None-ne-Some v (sym q))
+    go (Some r) q = Some-injective r.0 v (sym q)
 
-option_ok : (e : ProviderEvent) → (option event_f).Ok (some e) → event_f.Ok e
+option_ok : (e : ProviderEvent) → (option event_f).Ok (Some e) → event_f.Ok e
 unfolding option via enum ◌∣◌
 option_ok e k = k
 
 module _ (s : List ℕ) (p : ℕ) {next : Cursor} {listed : Listed} (M : Means next (meant_listed s listed) (option event_f) s (record { at = p; ok = true })) (k : (option event_f).Ok (option_event_at s p)) where
-  pub read_none : (r : ResourceId) {w w' : List ℕ} {a b : Progress} → listed ≡ Nothing → Changes (observe r none) w a b w' → Changes (observe r (option_event_at s p)) w a b w'
+  pub read_none : (r : ResourceId) {w w' : List ℕ} {a b : Progress} → listed ≡ Nothing → Changes (observe r None) w a b w' → Changes (observe r (option_event_at s p)) w a b w'
   read_none r {w} {w'} {a} {b} z C =
-      let e : option_event_at s p ≡ none = found_is s p next (meant_listed s listed) M k ∙ ap (meant_listed s) z in
+      let e : option_event_at s p ≡ None = found_is s p next (meant_listed s listed) M k ∙ ap (meant_listed s) z in
       subst (λ (x : Option ProviderEvent). Changes (observe r x) w a b w') (sym e) C
 
-  some_is : (at : ℕ) → listed ≡ Event at → option_event_at s p ≡ some (event_at s at)
+  some_is : (at : ℕ) → listed ≡ Event at → option_event_at s p ≡ Some (event_at s at)
   some_is at z = found_is s p next (meant_listed s listed) M k ∙ ap (meant_listed s) z
 
   pub read_ok : (at : ℕ) → listed ≡ Event at → event_f.Ok (event_at s at)
   read_ok at z = option_ok (event_at s at) (subst (λ (x : Option ProviderEvent). (option event_f).Ok x) (some_is at z) k)
 
-  pub read_some : (r : ResourceId) (at : ℕ) {w w' : List ℕ} {a b : Progress} → listed ≡ Event at → Changes (observe r (some (event_at s at))) w a b w' → Changes (observe r (option_event_at s p)) w a b w'
+  pub read_some : (r : ResourceId) (at : ℕ) {w w' : List ℕ} {a b : Progress} → listed ≡ Event at → Changes (observe r (Some (event_at s at))) w a b w' → Changes (observe r (option_event_at s p)) w a b w'
   read_some r at {w} {w'} {a} {b} z C = subst (λ (x : Option ProviderEvent). Changes (observe r x) w a b w') (sym (some_is at z)) C

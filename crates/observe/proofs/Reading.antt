@@ -1,55 +1,53 @@
 -- The open pass, and the names to be read. Assumes nothing.
-use Prim.Native.Nat.{ℕ, suc, ◌+◌, ◌*◌, ◌≤◌, ◌<◌}
+use Rattle.std.specs.Prelude.{Option, Some, None}
+use Prim.Native.Nat.{ℕ, suc, ◌+◌, ◌≤◌, ◌<◌}
 use native.Mathlib.Omega.{arith}
-use mathlib.Core.Path.{◌≡◌, refl, sym, ap, ap₂, ◌∙◌, subst}
+use mathlib.Core.Path.{◌≡◌, refl, sym, ap, ap₂, ◌∙◌}
 use mathlib.Core.List.{List, [], ◌∷◌, ◌++◌, append-nil}
-use mathlib.Core.Option.{Option, none, some}
 use mathlib.Core.Bool.{Bool, true, false, not, ◌&&◌}
-use lib.ListN.{length, take, drop, get_or, length-replicate}
+use lib.ListN.{length, take, get_or, length-append}
 use lib.Dec.{leb}
 use lib.Seq.{take-suc, take_all}
-use Rattle.spans.specs.Bytes.{zeros}
 use Rattle.model.specs.Event.{Text}
 use Rattle.model.specs.Seam.{ResourceId, Request}
 use Rattle.model.specs.State.{Map, Staged, Pass, Purpose, SyncState}
 use Rattle.model.specs.Limits.{Limits, document01}
 use Rattle.model.specs.Maps.{when◌then◌else◌, by_name, any, filter, map, keys, values, retain, insert, add, is_some}
-use Rattle.model.specs.Formats.{same}
-use Rattle.model.specs.SavedForm.{purpose_f}
+use Rattle.model.specs.Formats.{resource_id, same}
+use Rattle.model.specs.SavedForm.{staged_f, purpose_f}
 use Rattle.model.specs.Machine.{Machine, Run, refused, ok, ◌>>=◌, for_each, match◌none:◌some:◌, within, request, with_state, in_pass, change_pass, set_pass, with_staged, with_seen, with_observed, stage, see, watch}
 use Rattle.model.specs.Sync.{is_unread, pass_reads, refreshes, in_flight_any, unread, read_unread, learn, doubt_in_pass, doubt}
-use Rattle.model.proofs.Fitting.{any_same}
-use Rattle.state.specs.Layout.{padded, name_slot, pass_of, no_pass}
+use Rattle.format.specs.Format.{All}
+use Rattle.model.proofs.Fitting.{any_same, map-append}
+use Rattle.state.specs.Layout.{name_slot, pass_of, no_pass}
 use Rattle.state.specs.Setters.{with_pass, pass_changed}
 use Rattle.state.specs.Contract.{Keeps, HasState, Reads, Tries}
-use Rattle.state.specs.Values.{name_of, Named}
+use Rattle.state.specs.Values.{name_of, EachNamed}
 use Rattle.state.proofs.Padded.{text_name_only}
+use Rattle.state.proofs.Names.{each_named}
 use Rattle.state.proofs.Columns as columns
 use Rattle.state.proofs.Bridge as bridge
-use Rattle.state.proofs.Ops as ops
-use Rattle.staged.specs.Staging.{staged_of, may_stage, with_stage, staged_at, meant_kind, KindAt}
-use Rattle.staged.specs.declared.StagedKind.{StagedKind}
-use Rattle.staged.specs.declared.StagedKind.TheVariants as kind
+use Rattle.staged.specs.Staging.{staged_of, may_stage, with_stage, staged_at, Meant, StagedAt}
+use Rattle.staged.specs.declared.Staged.{Staged as Answer}
+use Rattle.staged.specs.declared.Staged.TheVariants as answer
 use Rattle.staged.proofs.Laws as staged
-use Rattle.flights.specs.Asked.{Listed, Lists}
-use Rattle.flights.proofs.Listing as listing
 use Rattle.tables.specs.Table.{text}
 use Rattle.machine.specs.declared.Progress.{Progress}
 use Rattle.machine.specs.Contract.{Does, Changes}
 use Rattle.machine.specs.Steps.{tried_by}
 use Rattle.machine.proofs.Runs as runs
 use Rattle.machine.proofs.Steps as steps
-use Rattle.observe.specs.Reading.{to_read, unread_of, all_unread, Noted, HasList, read_for_pass}
+use Rattle.observe.specs.Reading.{to_read, unread_of, all_unread, Noted, read_for_pass}
 use Rattle.observe.proofs.Each as each
 
 -- ---- an insert into a table of the open pass
 
 tried_in_pass : (test : Pass → Bool) (f : Pass → Pass → Pass) (m : Machine) (o : Option Pass)
-    → (match o none: ok m some: (λ pass. when test pass then ok (match o none: m some: (λ q. set_pass (some (f pass q)) m)) else refused 5))
-    ≡ (when (match o none: true some: test) then ok (with_state (match o none: m.state some: (λ q. with_pass (some (f q q)) m.state)) m) else refused 5)
+    → (match o none: ok m some: (λ pass. when test pass then ok (match o none: m some: (λ q. set_pass (Some (f pass q)) m)) else refused 5))
+    ≡ (when (match o none: true some: test) then ok (with_state (match o none: m.state some: (λ q. with_pass (Some (f q q)) m.state)) m) else refused 5)
 unfolding match◌none:◌some:◌ when◌then◌else◌ set_pass
-tried_in_pass test f m none = refl
-tried_in_pass test f m (some p) = refl
+tried_in_pass test f m None = refl
+tried_in_pass test f m (Some p) = refl
 
 stage_is : (r : ResourceId) (v : Staged) (m : Machine) → m.limits ≡ document01 → stage r v m ≡ (when may_stage r v m.state then ok (with_state (with_stage r v m.state) m) else refused 5)
 unfolding stage in_pass within change_pass pass_changed document01
@@ -111,42 +109,41 @@ more i s b l z =
     ∙ ap keys (filter_append (to_read s) (take i (staged_of s)) (staged_at i s ∷ [])) ∙ keys_append (filter (to_read s) (take i (staged_of s))) (filter (to_read s) (staged_at i s ∷ []))
     ∙ ap (λ (x : List Text). unread_of i s ++ x) (one_key (to_read s) (staged_at i s) b z)
 
--- what a kind says
-unread_kind : StagedKind → Bool
-unread_kind kind.Present = false
-unread_kind kind.Unread = true
-unread_kind kind.Removed = false
+-- what an answer says
+unread_answer : Answer → Bool
+unread_answer (answer.Present p) = false
+unread_answer answer.Unread = true
+unread_answer answer.Removed = false
 
-kind_unread : (k : StagedKind) (v : Staged) → meant_kind k v → is_unread v ≡ unread_kind k
-unfolding unread_kind is_unread
-kind_unread kind.Present v e = ap is_unread e.1
-kind_unread kind.Unread v e = ap is_unread e
-kind_unread kind.Removed v e = ap is_unread e
+answer_unread : (w : List ℕ) (k : Answer) (v : Staged) → Meant w k v → is_unread v ≡ unread_answer k
+unfolding unread_answer is_unread
+answer_unread w (answer.Present p) v e = ap is_unread e.1
+answer_unread w answer.Unread v e = ap is_unread e
+answer_unread w answer.Removed v e = ap is_unread e
+
+other_answer : (k : Answer) → (k ≡ answer.Unread → ⊥) → unread_answer k ≡ false
+unfolding unread_answer
+other_answer (answer.Present p) f = refl
+other_answer answer.Unread f = absurd (f refl)
+other_answer answer.Removed f = refl
 
 staged_below : (w : List ℕ) (i : ℕ) (s : SyncState) → Keeps s w → i < get_or w 9221 0 → i < length (staged_of s)
 staged_below w i s h l = let c = columns.counted staged.staged_column s w h in omega arith
 
 -- not among them
-same_names : (w b : List ℕ) (i n : ℕ) → i < get_or w 9221 0 → Noted i n w b → ((s : SyncState) → Keeps s w → to_read s (staged_at i s) ≡ false) → Noted (i + 1) n w b
+same_names : (w : List ℕ) (names : List (List ℕ)) (i : ℕ) → i < get_or w 9221 0 → Noted i w names → ((s : SyncState) → Keeps s w → to_read s (staged_at i s) ≡ false) → Noted (i + 1) w names
 unfolding last_of
-same_names w b i n l N z = record {
-  low = let h = N.low in omega arith;
-  long = N.long;
-  is = λ s h. subst (λ (x : List Text). Listed x n b) (sym (more i s false (staged_below w i s h l) (z s h) ∙ append-nil (unread_of i s))) (N.is s h);
+same_names w names i l N z = record {
+  low = omega (arith, N.low);
+  is = record { is = λ s h. N.is.is s h ∙ ap (map name_slot) (sym (more i s false (staged_below w i s h l) (z s h) ∙ append-nil (unread_of i s))) };
 }
 
-kind_is : (w : List ℕ) (i : ℕ) (k : StagedKind) (v : Bool) → KindAt i w k → unread_kind k ≡ v → (s : SyncState) → Keeps s w → is_unread (staged_at i s).1 ≡ v
-kind_is w i k v R z s h = kind_unread k (staged_at i s).1 (R.is s h) ∙ z
+entry_is : (w : List ℕ) (i : ℕ) (k : Answer) (v : Bool) → StagedAt i w k → unread_answer k ≡ v → (s : SyncState) → Keeps s w → is_unread (staged_at i s).1 ≡ v
+entry_is w i k v R z s h = answer_unread w k (staged_at i s).1 (R.is s h) ∙ z
 
-pub noted_present : (w b : List ℕ) (i n : ℕ) (k : StagedKind) → i < get_or w 9221 0 → Noted i n w b → KindAt i w k → k ≡ kind.Present → Noted (i + 1) n w b
-unfolding unread_kind
-noted_present w b i n k l N R z =
-    same_names w b i n l N (λ s h. ap (λ (x : Bool). x && not (any (pass_reads (staged_at i s).0) (values s.in_flight))) (kind_is w i k false R (ap unread_kind z) s h))
-
-pub noted_removed : (w b : List ℕ) (i n : ℕ) (k : StagedKind) → i < get_or w 9221 0 → Noted i n w b → KindAt i w k → k ≡ kind.Removed → Noted (i + 1) n w b
-unfolding unread_kind
-noted_removed w b i n k l N R z =
-    same_names w b i n l N (λ s h. ap (λ (x : Bool). x && not (any (pass_reads (staged_at i s).0) (values s.in_flight))) (kind_is w i k false R (ap unread_kind z) s h))
+pub noted_other : (w : List ℕ) (names : List (List ℕ)) (i : ℕ) (k : Answer) → i < get_or w 9221 0 → Noted i w names → StagedAt i w k → (k ≡ answer.Unread → ⊥) → Noted (i + 1) w names
+noted_other w names i k l N R f =
+    same_names w names i l N (λ s h. ap (λ (x : Bool). x && not (any (pass_reads (staged_at i s).0) (values s.in_flight))) (entry_is w i k false R (other_answer k f) s h))
 
 -- whether a read of it is in flight
 asks_is : (w q : List ℕ) (i : ℕ) (a : Bool) → Reads (λ s. name_slot (staged_at i s).0) w q → Reads (λ s. any (same purpose_f (Purpose.PassRead (name_of q))) (values s.in_flight)) w a
@@ -156,88 +153,63 @@ asks_is w q i a N A s h =
     sym (A.is s h ∙ any_same (same purpose_f (Purpose.PassRead (name_of q))) (pass_reads (name_of q)) (bridge.pass_reads_is (name_of q)) (values s.in_flight)
     ∙ ap (λ (x : Text). any (pass_reads x) (values s.in_flight)) n)
 
-read_is : (w q : List ℕ) (i : ℕ) (k : StagedKind) (a : Bool) → KindAt i w k → k ≡ kind.Unread → Reads (λ s. name_slot (staged_at i s).0) w q
+read_is : (w q : List ℕ) (i : ℕ) (k : Answer) (a : Bool) → StagedAt i w k → k ≡ answer.Unread → Reads (λ s. name_slot (staged_at i s).0) w q
     → Reads (λ s. any (same purpose_f (Purpose.PassRead (name_of q))) (values s.in_flight)) w a → (s : SyncState) → Keeps s w → to_read s (staged_at i s) ≡ not a
-unfolding unread_kind
-read_is w q i k a R z N A s h = ap₂ (λ (x y : Bool). x && not y) (kind_is w i k true R (ap unread_kind z) s h) (asks_is w q i a N A s h)
+unfolding unread_answer
+read_is w q i k a R z N A s h = ap₂ (λ (x y : Bool). x && not y) (entry_is w i k true R (ap unread_answer z) s h) (asks_is w q i a N A s h)
 
-pub noted_asked : (w b q : List ℕ) (i n : ℕ) (k : StagedKind) (a : Bool) → i < get_or w 9221 0 → Noted i n w b → KindAt i w k → k ≡ kind.Unread → Reads (λ s. name_slot (staged_at i s).0) w q
-    → Reads (λ s. any (same purpose_f (Purpose.PassRead (name_of q))) (values s.in_flight)) w a → a ≡ true → Noted (i + 1) n w b
-noted_asked w b q i n k a l N R z M A y = same_names w b i n l N (λ s h. read_is w q i k a R z M A s h ∙ ap not y)
+module _ (w q : List ℕ) (names : List (List ℕ)) (i : ℕ) (k : Answer) (a : Bool) (l : i < get_or w 9221 0) (N : Noted i w names) (R : StagedAt i w k) (z : k ≡ answer.Unread)
+    (M : Reads (λ s. name_slot (staged_at i s).0) w q) (A : Reads (λ s. any (same purpose_f (Purpose.PassRead (name_of q))) (values s.in_flight)) w a) where
+  pub noted_asked : a ≡ true → Noted (i + 1) w names
+  noted_asked y = same_names w names i l N (λ s h. read_is w q i k a R z M A s h ∙ ap not y)
 
-pub noted_one : (w b b' q : List ℕ) (i n : ℕ) (k : StagedKind) (a : Bool) → HasState w → i < get_or w 9221 0 → Noted i n w b → KindAt i w k → k ≡ kind.Unread
-    → Reads (λ s. name_slot (staged_at i s).0) w q → Reads (λ s. any (same purpose_f (Purpose.PassRead (name_of q))) (values s.in_flight)) w a → a ≡ false → length b' ≡ length b
-    → b' ≡ take (n * 33) b ++ (q ++ drop (n * 33 + length q) b) → Noted (i + 1) (n + 1) w b'
-unfolding last_of
-noted_one w b b' q i n k a K l N R z M A y g d = record {
-  low = let h = N.low in omega arith;
-  long = g ∙ N.long;
-  is = λ s h.
-      let j = staged_below w i s h l in
-      let u = columns.nth staged.staged_column ([], Staged.Unread) i s w h j in
-      let c = (staged.few w i K l).0 in
-      let o = N.low in
-      subst (λ (x : List Text). Listed x (n + 1) b') (sym (more i s true j (read_is w q i k a R z M A s h ∙ ap not y)))
-      (listing.listed_more (unread_of i s) (staged_at i s).0 n q b b' u.2.0 (omega arith) (N.is s h) (M.is s h) d);
-}
+  pub noted_one : a ≡ false → Noted (i + 1) w (names ++ (q ∷ []))
+  unfolding last_of map
+  noted_one y = record {
+    low = omega (arith, N.low, length-append names (q ∷ []));
+    is = record {
+      is = λ s h.
+          ap₂ (λ (x y : List (List ℕ)). x ++ y) (N.is.is s h) (ap (λ (x : List ℕ). x ∷ []) (M.is s h)) ∙ sym (map-append name_slot (unread_of i s) ((staged_at i s).0 ∷ []))
+          ∙ ap (map name_slot) (sym (more i s true (staged_below w i s h l) (read_is w q i k a R z M A s h ∙ ap not y)));
+    };
+  }
 
-pub name_room : (w b q : List ℕ) (i n : ℕ) → HasState w → i < get_or w 9221 0 → Noted i n w b → Named q → (i < 10) × (n < 10) × (n * 33 + length q ≤ length b)
-name_room w b q i n K l N M =
-    let c = staged.few w i K l in
-    let o = N.low in
-    let k = N.long in
-    let j : length q ≡ 33 = ops.named_long q M in
-    (c.0, omega arith, omega arith)
+-- there is room for one name more
+pub few : (w : List ℕ) (names : List (List ℕ)) (i : ℕ) → HasState w → i < get_or w 9221 0 → Noted i w names → length names < 10
+few w names i K l N = omega (arith, staged.few w i K l, N.low)
 
 -- ---- none, and all
 
-pub noted_start : (w b : List ℕ) → b ≡ zeros 792 → Noted 0 0 w b
-unfolding keys map filter padded
-noted_start w b e = record {
-  low = omega arith;
-  long = ap length e ∙ length-replicate {A = ℕ} 792 0;
-  is = λ s h. record { many = refl; few = omega arith; each = tt; is = e };
-}
+pub noted_start : (w : List ℕ) → Noted 0 w []
+unfolding keys map filter
+noted_start w = record { low = omega arith; is = record { is = λ s h. refl } }
 
-pub noted_all : (w b : List ℕ) (i n : ℕ) → i ≤ get_or w 9221 0 → get_or w 9221 0 ≤ i → Noted i n w b → Noted (get_or w 9221 0) n w b
-noted_all w b i n p q N =
-    let e : i ≡ get_or w 9221 0 = omega arith in
-    subst (λ (x : ℕ). Noted x n w b) e N
+pub below : (w : List ℕ) (n i : ℕ) → HasState w → Reads (λ s. length (staged_of s)) w n → i < n → i < get_or w 9221 0
+below w n i K R l =
+    let c = columns.counted staged.staged_column K.state w K.keeps in
+    let m = R.is K.state K.keeps in
+    omega arith
 
-pub noted_end : (w b : List ℕ) (n : ℕ) → Noted (get_or w 9221 0) n w b → Lists all_unread w n b
-noted_end w b n N = record {
+pub noted_end : (w : List ℕ) (n i : ℕ) (names : List (List ℕ)) → Reads (λ s. length (staged_of s)) w n → n ≤ i → Noted i w names → Reads (λ s. map name_slot (all_unread s)) w names
+noted_end w n i names R l N = record {
   is = λ s h.
-      let c = columns.counted staged.staged_column s w h in
-      let t : take (get_or w 9221 0) (staged_of s) ≡ staged_of s = ap (λ (k : ℕ). take k (staged_of s)) c ∙ take_all (length (staged_of s)) (staged_of s) (omega arith) in
-      subst (λ (x : Map ResourceId Staged). Listed (keys (filter (to_read s) x)) n b) t (N.is s h);
+      let m : n ≡ length (staged_of s) = R.is s h in
+      let t : take i (staged_of s) ≡ staged_of s = take_all i (staged_of s) (omega arith) in
+      N.is.is s h ∙ ap (λ (x : Map ResourceId Staged). map name_slot (keys (filter (to_read s) x))) t;
 }
 
-pub has_list : (w b : List ℕ) (n : ℕ) → HasState w → length b ≡ 792 → Lists all_unread w n b → HasList n b
-has_list w b n K l L = record { names = all_unread K.state; listed = L.is K.state K.keeps; long = l }
+-- the names to be read are names
+unread_ok : (f : ResourceId × Staged → Bool) (m : Map ResourceId Staged) → All (λ e. resource_id.Ok e.0 × staged_f.Ok e.1) m → All resource_id.Ok (keys (filter f m))
+unfolding keys map filter when◌then◌else◌
+unread_ok f [] a = tt
+unread_ok f (e ∷ m) a = go (f e) (unread_ok f m a.1)
+  where
+    go : (b : Bool) → All resource_id.Ok (keys (filter f m)) → All resource_id.Ok (keys (when b then e ∷ filter f m else filter f m))
+    go true h = (a.0.0, h)
+    go false h = h
 
--- ---- a request for each
-
-pub listed_below : (b : List ℕ) (i count : ℕ) → HasList count b → i < count → (length b ≡ 792) × (i < 24)
-listed_below b i count H l =
-    let c = H.listed.many in
-    let f = H.listed.few in
-    (H.long, omega arith)
-
-pub named_in : (b q : List ℕ) (i count : ℕ) → HasList count b → i < count
-    → ((listed : List Text) (count : ℕ) → Listed listed count b → i < count → (q ≡ name_slot (get_or listed i [])) × Named q) → Named q
-named_in b q i count H l g = (g H.names count H.listed l).1
-
--- a function called for each name of a list
-module _ (f : ResourceId → Machine → Run) where
-  pub list_turn : (l : List Text) (i count : ℕ) {w o w₁ o₁ w₂ o₂ : List ℕ} {p q s : Progress} (b : List ℕ) → i < count → (x : List ℕ) → Listed l count x → b ≡ name_slot (get_or l i [])
-      → Does (for_each f (take i l)) w o p q w₁ o₁ → Does (f (name_of b)) w₁ o₁ q s w₂ o₂ → Does (for_each f (take (i + 1) l)) w o p s w₂ o₂
-  list_turn l i count {w₁ = w₁} {o₁} {w₂} {o₂} {q = q} {s} b h x L e D E =
-      let c : count ≡ length l = L.many in
-      let n : name_of b ≡ get_or l i [] = ap text e ∙ text_name_only (get_or l i []) in
-      each.each_turn f l [] i (omega arith) D (subst (λ (r : Text). Does (f r) w₁ o₁ q s w₂ o₂) n E)
-
-  pub list_all : (l : List Text) (i count : ℕ) {w o w₁ o₁ : List ℕ} {p q : Progress} (x : List ℕ) → i ≤ count → count ≤ i → Listed l count x → Does (for_each f (take i l)) w o p q w₁ o₁ → Does (for_each f l) w o p q w₁ o₁
-  list_all l i count x a b L D = let c : count ≡ length l = L.many in each.each_end f l i (omega arith) D
+pub unread_named : (w : List ℕ) (names : List (List ℕ)) → HasState w → Reads (λ s. map name_slot (all_unread s)) w names → EachNamed names
+unread_named w names K R = each_named names (all_unread K.state) (R.is K.state K.keeps) (unread_ok (to_read K.state) (staged_of K.state) K.keeps.fits.pass.staged.each)
 
 read_unread_is : (m : Machine) → for_each read_for_pass (all_unread m.state) m ≡ read_unread m
 unfolding read_unread in_pass unread in_flight_any retain match◌none:◌some:◌ pass_of no_pass filter keys map for_each
@@ -245,28 +217,29 @@ read_unread_is m = go m.state.pass
   where
     go : (o : Option Pass) → for_each read_for_pass (keys (filter (to_read m.state) (pass_of o).staged)) m
         ≡ (match o none: ok m some: (λ pass. for_each read_for_pass (keys (filter (to_read m.state) pass.staged)) m))
-    go none = refl
-    go (some p) = refl
+    go None = refl
+    go (Some p) = refl
 
-pub reads_unread : {w o w' o' b : List ℕ} {p q : Progress} (n : ℕ) → HasState w → Lists all_unread w n b → ((l : List Text) → Listed l n b → Does (for_each read_for_pass l) w o p q w' o')
+pub reads_unread : {w o w' o' : List ℕ} {p q : Progress} (names : List (List ℕ)) → HasState w → Reads (λ s. map name_slot (all_unread s)) w names → Does (for_each read_for_pass (map name_of names)) w o p q w' o'
     → Does read_unread w o p q w' o'
-reads_unread n K L d = runs.is read_unread read_unread_is (each.for_state (for_each read_for_pass) all_unread K (λ s h. d (all_unread s) (L.is s h)))
+reads_unread names K R D =
+    runs.is read_unread read_unread_is (each.names_read read_for_pass names all_unread K R D)
 
 -- ---- doubt
 
-pass_none : (body : Pass → Machine → Run) (m : Machine) → m.state.pass ≡ none → in_pass body m ≡ ok m
+pass_none : (body : Pass → Machine → Run) (m : Machine) → m.state.pass ≡ None → in_pass body m ≡ ok m
 unfolding in_pass match◌none:◌some:◌
 pass_none body m e = ap (λ (o : Option Pass). match o none: ok m some: (λ pass. body pass m)) e
 
-pass_some : (body : Pass → Machine → Run) (m : Machine) (p : Pass) → m.state.pass ≡ some p → in_pass body m ≡ body p m
+pass_some : (body : Pass → Machine → Run) (m : Machine) (p : Pass) → m.state.pass ≡ Some p → in_pass body m ≡ body p m
 unfolding in_pass match◌none:◌some:◌
 pass_some body m p e = ap (λ (o : Option Pass). match o none: ok m some: (λ pass. body pass m)) e
 
-watch_none : (r : ResourceId) (m : Machine) → m.state.pass ≡ none → watch r m ≡ ok m
+watch_none : (r : ResourceId) (m : Machine) → m.state.pass ≡ None → watch r m ≡ ok m
 unfolding watch
 watch_none r m e = pass_none _ m e
 
-read_none : (m : Machine) → m.state.pass ≡ none → read_unread m ≡ ok m
+read_none : (m : Machine) → m.state.pass ≡ None → read_unread m ≡ ok m
 unfolding read_unread
 read_none m e = pass_none _ m e
 
@@ -278,8 +251,8 @@ unfolding doubt_in_pass pass_of no_pass is_some when◌then◌else◌ ◌>>=◌
 doubt_in_pass_is r m = go m.state.pass refl
   where
     go : (o : Option Pass) → m.state.pass ≡ o → marked r (is_some (pass_of m.state.pass).done) m ≡ in_pass (doubt_in_pass r) m
-    go none e = ap (λ (o : Option Pass). marked r (is_some (pass_of o).done) m) e ∙ ap (λ (x : Run). x >>= read_unread) (watch_none r m e) ∙ read_none m e ∙ sym (pass_none (doubt_in_pass r) m e)
-    go (some p) e = ap (λ (o : Option Pass). marked r (is_some (pass_of o).done) m) e ∙ sym (pass_some (doubt_in_pass r) m p e)
+    go None e = ap (λ (o : Option Pass). marked r (is_some (pass_of o).done) m) e ∙ ap (λ (x : Run). x >>= read_unread) (watch_none r m e) ∙ read_none m e ∙ sym (pass_none (doubt_in_pass r) m e)
+    go (Some p) e = ap (λ (o : Option Pass). marked r (is_some (pass_of o).done) m) e ∙ sym (pass_some (doubt_in_pass r) m p e)
 
 module _ (r : ResourceId) {w o w₁ w₂ o₂ : List ℕ} {p q s : Progress} {v : Bool} (D : Reads (λ s. is_some (pass_of s.pass).done) w v) where
   pub doubt_done : v ≡ true → Changes (stage r Staged.Unread) w p q w₁ → Does read_unread w₁ o q s w₂ o₂ → Does (in_pass (doubt_in_pass r)) w o p s w₂ o₂
@@ -307,10 +280,10 @@ doubt_is r m = each.bind_same (learn r m) (doubted r) _ (λ m. go m m.state.pass
     rest m o = match o none: (when in_flight_any (refreshes r) m then ok m else request (Purpose.Refresh r) (Request.Read r) m) some: (λ pass. doubt_in_pass r pass m)
 
     go : (m : Machine) (o : Option Pass) → m.state.pass ≡ o → doubted r m ≡ rest m m.state.pass
-    go m none e = ap (λ (o : Option Pass). when is_some o then in_pass (doubt_in_pass r) m else refresh r m) e
+    go m None e = ap (λ (o : Option Pass). when is_some o then in_pass (doubt_in_pass r) m else refresh r m) e
         ∙ ap (λ (b : Bool). when b then ok m else request (Purpose.Refresh r) (Request.Read r) m) (any_same (same purpose_f (Purpose.Refresh r)) (refreshes r) (bridge.refreshes_is r) (values m.state.in_flight))
         ∙ sym (ap (rest m) e)
-    go m (some p) e = ap (λ (o : Option Pass). when is_some o then in_pass (doubt_in_pass r) m else refresh r m) e ∙ pass_some (doubt_in_pass r) m p e ∙ sym (ap (rest m) e)
+    go m (Some p) e = ap (λ (o : Option Pass). when is_some o then in_pass (doubt_in_pass r) m else refresh r m) e ∙ pass_some (doubt_in_pass r) m p e ∙ sym (ap (rest m) e)
 
 module _ (r : ResourceId) {w o w₁ w₂ o₂ : List ℕ} {p q s : Progress} {v : Bool} (L : Changes (learn r) w p q w₁) (O : Reads (λ s. is_some s.pass) w₁ v) where
   pub doubt_open : v ≡ true → Does (in_pass (doubt_in_pass r)) w₁ o q s w₂ o₂ → Does (doubt r) w o p s w₂ o₂

@@ -1,8 +1,8 @@
 -- `on_refresh`. Assumes nothing.
+use Rattle.std.specs.Prelude.{Option, None}
 use Prim.Native.Nat.{ℕ}
 use mathlib.Core.Path.{◌≡◌, refl, sym, ap, subst}
 use mathlib.Core.List.{List}
-use mathlib.Core.Option.{Option, none}
 use mathlib.Core.Bool.{Bool, true, false, ◌||◌, false≢true}
 use lib.Dec.{ltb}
 use Rattle.format.specs.Format.{option, via, enum, ◌∣◌}
@@ -69,7 +69,7 @@ ends_is s (Rejected why) z = refl
 pub failed_ends : (s : List ℕ) (id : RequestId) (r : ResourceId) (f : Failure) {w o : List ℕ} {p : Progress} → ends f ≡ true → Does (refresh_answered id r (answer_failed (meant_failure s f))) w o p p w o
 failed_ends s id r f z = other id r (answer_failed (meant_failure s f)) (ends_is s f z)
 
-pub failed_gone : (s : List ℕ) (id : RequestId) (r : ResourceId) {f : Failure} {w o w' o' : List ℕ} {p q : Progress} → f ≡ NotFound → Does (refresh_answered id r (ReadAnswer.Found none)) w o p q w' o'
+pub failed_gone : (s : List ℕ) (id : RequestId) (r : ResourceId) {f : Failure} {w o w' o' : List ℕ} {p q : Progress} → f ≡ NotFound → Does (refresh_answered id r (ReadAnswer.Found None)) w o p q w' o'
     → Does (refresh_answered id r (answer_failed (meant_failure s f))) w o p q w' o'
 unfolding answer_failed
 failed_gone s id r e D = answered id r (ap (λ (x : Failure). answer_failed (meant_failure s x)) e) D

@@ -1,14 +1,14 @@
 -- The staged names that are to be read, and the requests for them. Assumes nothing.
-use Rattle.std.specs.Prelude.{ℕ, ◌≤◌, ◌≡◌, List as Vec, Bool, not, ◌&&◌, length, take}
+use Rattle.std.specs.Prelude.{ℕ, ◌≤◌, List as Vec, Bool, not, ◌&&◌, length, take}
 use Rattle.model.specs.Event.{Text}
 use Rattle.model.specs.Seam.{ResourceId, Request}
 use Rattle.model.specs.State.{Staged, Purpose, SyncState}
-use Rattle.model.specs.Maps.{any, filter, keys, values}
+use Rattle.model.specs.Maps.{any, filter, keys, map, values}
 use Rattle.model.specs.Machine.{Machine, Run, request}
 use Rattle.model.specs.Sync.{is_unread, pass_reads}
-use Rattle.state.specs.Contract.{Keeps}
+use Rattle.state.specs.Layout.{name_slot}
+use Rattle.state.specs.Contract.{Reads}
 use Rattle.staged.specs.Staging.{staged_of}
-use Rattle.flights.specs.Asked.{Listed}
 
 -- whether a staged entry is to be read: it is unread, and no read of it is in flight
 abbrev pub to_read : SyncState → ResourceId × Staged → Bool
@@ -22,17 +22,10 @@ unread_of i s = keys (filter (to_read s) (take i (staged_of s)))
 abbrev pub all_unread : SyncState → Vec Text
 all_unread s = keys (filter (to_read s) (staged_of s))
 
--- n names of the first i staged are listed
-pub record Noted (i n : ℕ) (w b : Vec ℕ) : Type 0 where
-  pub low : n ≤ i
-  pub long : length b ≡ 792
-  pub is : (s : SyncState) → Keeps s w → Listed (unread_of i s) n b
-
--- some names are listed
-pub record HasList (count : ℕ) (b : Vec ℕ) : Type 0 where
-  pub names : Vec Text
-  pub listed : Listed names count b
-  pub long : length b ≡ 792
+-- the names to be read among the first i staged: at most i
+pub record Noted (i : ℕ) (w : Vec ℕ) (names : Vec (Vec ℕ)) : Type 0 where
+  pub low : length names ≤ i
+  pub is : Reads (λ s. map name_slot (unread_of i s)) w names
 
 abbrev pub read_for_pass : ResourceId → Machine → Run
 read_for_pass resource = request (Purpose.PassRead resource) (Request.Read resource)

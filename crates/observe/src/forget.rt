@@ -6,10 +6,9 @@ ghost use Rattle.state.specs.Values.{name_of, Named};
 ghost use Rattle.staged.specs.Staging.{staged_of};
 ghost use Rattle.observe.specs.Forgetting.{settled_before, settled, held_in_pass, held_in, with_held_aliases, Tested};
 
-use crate::open_pass::{STAGED, STAGED_SIZE, STAGED_SLOT};
 use names::Name;
-use state::Numbered;
-use tables::Place;
+use pass_tables::Names;
+use staged::STAGED;
 
 fn forget_before(work: &mut [u8], oldest: u64)
     requires { HasState work.old }
@@ -26,15 +25,12 @@ pub fn forget_settled(work: &mut [u8])
     requires { HasState work.old }
     ensures { Edits settled work.old work.new }
 {
-    let oldest = state::first_in_flight(work);
-    match oldest {
-        Numbered::Nothing => {
+    match state::first_in_flight(work) {
+        None => {
             state::clear_learned(work);
             state::set_learned_all(work, 0);
         }
-        Numbered::Is(n) => {
-            forget_before(work, n);
-        }
+        Some(n) => forget_before(work, n),
     }
 }
 
@@ -43,15 +39,7 @@ fn has_record(work: &[u8], name: Name) -> bool
     requires named { Named name.bytes }
     ensures { Reads (λ s. is_some (get by_name (name_of name.bytes) s.records)) work.now result }
 {
-    let place = records::find_record(work, name);
-    match place {
-        Place::Found(at) => {
-            return true;
-        }
-        Place::Missing(at) => {
-            return false;
-        }
-    }
+    records::find_record(work, name).is_some()
 }
 
 fn is_staged(work: &[u8], name: Name) -> bool
@@ -59,16 +47,7 @@ fn is_staged(work: &[u8], name: Name) -> bool
     requires named { Named name.bytes }
     ensures { Reads (λ s. is_some (get by_name (name_of name.bytes) (staged_of s))) work.now result }
 {
-    let key = name.bytes;
-    let place = lent::find_in(work, STAGED, STAGED_SIZE, STAGED_SLOT, &key);
-    match place {
-        Place::Found(at) => {
-            return true;
-        }
-        Place::Missing(at) => {
-            return false;
-        }
-    }
+    STAGED.find(work, &name.bytes).is_ok()
 }
 
 fn in_pass(work: &[u8], name: Name) -> bool
@@ -79,7 +58,7 @@ fn in_pass(work: &[u8], name: Name) -> bool
     if is_staged(work, name) {
         return true;
     }
-    pass_tables::has_observed(work, name)
+    Names::Observed.has(work, name)
 }
 
 fn held_anywhere(work: &[u8], name: Name) -> bool
@@ -118,10 +97,9 @@ pub fn forget_aliases(work: &mut [u8])
     requires { HasState work.old }
     ensures { Edits with_held_aliases work.old work.new }
 {
-    let mut left = state::alias_count(work);
+    let count = state::alias_count(work);
     let mut i = 0;
-    while 0 < left {
+    for _ in 0..count {
         i = forget_alias(work, i);
-        left -= 1;
     }
 }

@@ -1,6 +1,5 @@
 // SyncState::observe
-ghost use Rattle.std.specs.Prelude.{◌≡◌};
-ghost use Rattle.std.proofs.Math.Option.{none, some};
+ghost use Rattle.std.specs.Prelude.{◌≡◌, Some, None};
 ghost use Rattle.format.specs.Format.{option};
 ghost use Rattle.model.specs.Event.{ProviderEvent};
 ghost use Rattle.model.specs.Seam.{resource_of};
@@ -18,6 +17,7 @@ use crate::putting::put_record;
 use frame::Cursor;
 use machine::Progress;
 use names::Name;
+use pass_tables::Names;
 use values::Listed;
 
 // ResourceId::of
@@ -69,7 +69,7 @@ fn observe_none(work: &mut [u8], p: Progress, resource: Name) -> Progress
     ensures { Changes (observe_none (name_of resource.bytes)) work.old p result work.new }
 {
     staged::unstage(work, resource);
-    pass_tables::remove_seen(work, resource);
+    Names::Seen.remove(work, resource);
     let q = watch_unless_done(work, p, resource);
     records::remove_record(work, resource);
     q
@@ -79,7 +79,7 @@ fn observe_none(work: &mut [u8], p: Progress, resource: Name) -> Progress
 pub fn observe_some(work: &mut [u8], p: Progress, resource: Name, event: &[u8]) -> Progress
     requires has_state { HasState work.old }
     requires named { (Named resource.bytes) × (IsEvent event.now) }
-    ensures { (e : ProviderEvent) → event_f.Ok e → event.now ≡ event_f.enc e → Changes (observe (name_of resource.bytes) (some e)) work.old p result work.new }
+    ensures { (e : ProviderEvent) → event_f.Ok e → event.now ≡ event_f.enc e → Changes (observe (name_of resource.bytes) (Some e)) work.old p result work.new }
 {
     let q = machine::learn(work, p, resource);
     observe_event(work, q, resource, event)
@@ -89,7 +89,7 @@ pub fn observe_some(work: &mut [u8], p: Progress, resource: Name, event: &[u8]) 
 pub fn observe_gone(work: &mut [u8], p: Progress, resource: Name) -> Progress
     requires has_state { HasState work.old }
     requires named { Named resource.bytes }
-    ensures { Changes (observe (name_of resource.bytes) none) work.old p result work.new }
+    ensures { Changes (observe (name_of resource.bytes) None) work.old p result work.new }
 {
     let q = machine::learn(work, p, resource);
     observe_none(work, q, resource)
@@ -109,7 +109,7 @@ pub fn event_part(frame: &[u8], at: usize) -> &[u8]
 pub fn observe_at(work: &mut [u8], p: Progress, resource: Name, frame: &[u8], at: usize) -> Progress
     requires has_state { HasState work.old }
     requires named { (Named resource.bytes) × (event_f.Ok (event_at frame.now at)) }
-    ensures { Changes (observe (name_of resource.bytes) (some (event_at frame.now at))) work.old p result work.new }
+    ensures { Changes (observe (name_of resource.bytes) (Some (event_at frame.now at))) work.old p result work.new }
 {
     observe_some(work, p, resource, event_part(frame, at))
 }

@@ -1,4 +1,4 @@
-// The open pass: where its staged entries stand, and what it notes of a resource.
+// The open pass: what it notes of a resource.
 ghost use Rattle.model.specs.State.{Staged};
 ghost use Rattle.model.specs.Machine.{stage, see, watch};
 ghost use Rattle.state.specs.Contract.{HasState};
@@ -7,13 +7,7 @@ ghost use Rattle.machine.specs.Contract.{Changes};
 
 use machine::Progress;
 use names::Name;
-
-// The staged entries' region of the work buffer.
-pub const STAGED: usize = 9221;
-
-pub const STAGED_SIZE: usize = 9161;
-
-pub const STAGED_SLOT: usize = 916;
+use pass_tables::Names;
 
 // pass.staged.insert(name, Staged::Unread)
 pub fn stage_unread(work: &mut [u8], p: Progress, name: Name) -> Progress
@@ -31,7 +25,7 @@ pub fn see(work: &mut [u8], p: Progress, name: Name) -> Progress
     requires named { Named name.bytes }
     ensures { Changes (see (name_of name.bytes)) work.old p result work.new }
 {
-    let within = pass_tables::add_seen(work, name);
+    let within = Names::Seen.add(work, name);
     machine::tried(p, within)
 }
 
@@ -41,6 +35,6 @@ pub fn watch(work: &mut [u8], p: Progress, name: Name) -> Progress
     requires named { Named name.bytes }
     ensures { Changes (watch (name_of name.bytes)) work.old p result work.new }
 {
-    let within = pass_tables::add_observed(work, name);
+    let within = Names::Observed.add(work, name);
     machine::tried(p, within)
 }

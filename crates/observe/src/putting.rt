@@ -13,7 +13,6 @@ ghost use Rattle.observe.specs.Observing.{gives_way};
 
 use machine::Progress;
 use names::Name;
-use tables::Place;
 use versions::Version;
 
 // Whether an event of this version takes the place of what is held under a name.
@@ -22,15 +21,12 @@ fn replaces(work: &[u8], name: Name, version: Version) -> bool
     requires named { (Named name.bytes) × (length version.revision ≡ 34) }
     ensures { (e : ProviderEvent) → event_f.Ok e → VersionOf e version.revision version.mapper → Reads (gives_way (name_of name.bytes) e) work.now result }
 {
-    let place = records::find_record(work, name);
-    match place {
-        Place::Found(at) => {
+    match records::find_record(work, name) {
+        Some(at) => {
             let held = versions::version_at(work, at + 33);
-            return versions::takes_place(version, held);
+            versions::takes_place(version, held)
         }
-        Place::Missing(at) => {
-            return true;
-        }
+        None => true,
     }
 }
 

@@ -1,84 +1,56 @@
 // SyncState::read_unread, SyncState::doubt
-ghost use Rattle.std.specs.Prelude.{◌≡◌, List as Vec, ◌+◌, ◌<◌, get_or};
-ghost use Rattle.spans.specs.Bytes.{zeros};
-ghost use Rattle.model.specs.Event.{Text};
+ghost use Rattle.std.specs.Prelude.{◌+◌, ◌<◌, get_or};
+ghost use Rattle.model.specs.Maps.{map};
 ghost use Rattle.model.specs.Machine.{for_each, in_pass};
 ghost use Rattle.model.specs.Sync.{read_unread, doubt_in_pass, doubt};
-ghost use Rattle.state.specs.Contract.{HasState};
-ghost use Rattle.state.specs.Values.{name_of, Named};
-ghost use Rattle.flights.specs.Asked.{Listed as ListedNames, Lists};
+ghost use Rattle.state.specs.Layout.{name_slot};
+ghost use Rattle.state.specs.Contract.{HasState, Reads};
+ghost use Rattle.state.specs.Values.{name_of, Named, EachNamed};
 ghost use Rattle.machine.specs.Contract.{Does};
-ghost use Rattle.observe.specs.Reading.{Noted, HasList, all_unread, read_for_pass};
+ghost use Rattle.observe.specs.Reading.{Noted, all_unread, read_for_pass};
 
-use crate::open_pass::{STAGED, stage_unread, watch};
-use flights::NameList;
+use crate::open_pass::{stage_unread, watch};
 use machine::Progress;
-use names::Name;
-use staged::StagedKind;
-use state::Kind;
+use names::{Name, NameList};
+use staged::Staged;
+use state::Purpose;
 
-// Writes the name of staged entry i behind n names, if it is to be read; how many names there are then.
-fn note(work: &[u8], i: usize, names: &mut [u8], n: usize) -> usize
+// Notes the name of staged entry i, if it is to be read.
+fn note(work: &[u8], i: usize, names: &mut NameList<10>)
     requires has_state { HasState work.now }
-    requires i_bound { (i < get_or work.now 9221 0) × (Noted i n work.now names.old) }
-    ensures { Noted (i + 1) result work.now names.new }
+    requires i_bound { (i < get_or work.now 9221 0) × (Noted i work.now names.old) }
+    ensures { Noted (i + 1) work.now names.new }
 {
-    let kind = staged::staged_kind(work, i);
-    match kind {
-        StagedKind::Unread => {
-            let name = staged::staged_name(work, i);
-            if state::asks(work, Kind::PassRead, name) {
-                return n;
-            }
-            let bytes = name.bytes;
-            tables::put_slot(names, n * 33, &bytes);
-            return n + 1;
-        }
-        StagedKind::Present => {
-            return n;
-        }
-        StagedKind::Removed => {
-            return n;
+    let name = staged::staged_name(work, i);
+    if let Staged::Unread = staged::entry(work, i) {
+        if !state::asks(work, Purpose::PassRead(name)) {
+            names.push(name);
         }
     }
-}
-
-fn note_all(work: &[u8], names: &mut [u8]) -> usize
-    requires has_state { HasState work.now }
-    requires names_value { names.old ≡ zeros 792 }
-    ensures { Noted (get_or work.now 9221 0) result work.now names.new }
-{
-    let total = work[STAGED] as usize;
-    let mut i = 0;
-    let mut n = 0;
-    while i < total {
-        n = note(work, i, names, n);
-        i += 1;
-    }
-    n
 }
 
 // The names to be read, listed before the first request: a request may take the number of one in flight.
-fn unread(work: &[u8]) -> NameList
+fn unread(work: &[u8]) -> NameList<10>
     requires { HasState work.now }
-    ensures { Lists all_unread work.now result.count result.bytes }
+    ensures { Reads (λ s. map name_slot (all_unread s)) work.now result }
 {
-    let mut bytes = [0u8; 792];
-    let count = note_all(work, &mut bytes);
-    NameList { count, bytes }
+    let count = staged::staged_count(work);
+    let mut list = NameList::new();
+    for i in 0..count {
+        note(work, i, &mut list);
+    }
+    list
 }
 
-fn read_each(work: &mut [u8], out: &mut [u8], p: Progress, names: &[u8], count: usize) -> Progress
+fn read_each(work: &mut [u8], out: &mut [u8], p: Progress, names: &NameList<10>) -> Progress
     requires has_state { HasState work.old }
-    requires has_list { HasList count names.now }
-    ensures { (l : Vec Text) → ListedNames l count names.now → Does (for_each read_for_pass l) work.old out.old p result work.new out.new }
+    requires named { EachNamed names.now }
+    ensures { Does (for_each read_for_pass (map name_of names.now)) work.old out.old p result work.new out.new }
 {
     let mut q = p;
-    let mut i = 0;
-    while i < count {
-        let name = flights::listed_name(names, i);
-        q = machine::request_read(work, out, q, Kind::PassRead, name);
-        i += 1;
+    for i in 0..names.len() {
+        let name = names.name(i);
+        q = machine::request_read(work, out, q, Purpose::PassRead(name), name);
     }
     q
 }
@@ -87,10 +59,8 @@ pub fn read_unread(work: &mut [u8], out: &mut [u8], p: Progress) -> Progress
     requires { HasState work.old }
     ensures { Does read_unread work.old out.old p result work.new out.new }
 {
-    let list = unread(work);
-    let count = list.count;
-    let names = list.bytes;
-    read_each(work, out, p, &names, count)
+    let names = unread(work);
+    read_each(work, out, p, &names)
 }
 
 fn doubt_in_pass(work: &mut [u8], out: &mut [u8], p: Progress, name: Name) -> Progress
@@ -117,8 +87,8 @@ pub fn doubt(work: &mut [u8], out: &mut [u8], p: Progress, name: Name) -> Progre
     if pass_tables::is_open(work) {
         return doubt_in_pass(work, out, q, name);
     }
-    if state::asks(work, Kind::Refresh, name) {
+    if state::asks(work, Purpose::Refresh(name)) {
         return q;
     }
-    machine::request_read(work, out, q, Kind::Refresh, name)
+    machine::request_read(work, out, q, Purpose::Refresh(name), name)
 }

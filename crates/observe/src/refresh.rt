@@ -1,5 +1,5 @@
 // SyncState::on_refresh
-ghost use Rattle.std.proofs.Math.Option.{none};
+ghost use Rattle.std.specs.Prelude.{None};
 ghost use Rattle.format.specs.Format.{option};
 ghost use Rattle.model.specs.Sync.{ReadAnswer, answer_failed, refresh_answered, on_refresh};
 ghost use Rattle.model.specs.Formats.{event_f, outcome_f};
@@ -36,7 +36,7 @@ fn refresh_read(
 fn refresh_gone(work: &mut [u8], out: &mut [u8], p: Progress, id: u64, name: Name) -> Progress
     requires has_state { HasState work.old }
     requires named { Named name.bytes }
-    ensures { Does (refresh_answered id (name_of name.bytes) (ReadAnswer.Found none)) work.old out.old p result work.new out.new }
+    ensures { Does (refresh_answered id (name_of name.bytes) (ReadAnswer.Found None)) work.old out.old p result work.new out.new }
 {
     if machine::doubtful(work, id, name) {
         return doubt(work, out, p, name);

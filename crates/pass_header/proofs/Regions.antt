@@ -1,9 +1,9 @@
 -- All regions of a pass at once: another pass, or none, in their place. Assumes nothing.
+use Rattle.std.specs.Prelude.{Option, Some, None}
 use Prim.Native.Nat.{ℕ}
 use native.Mathlib.Omega.{arith}
 use mathlib.Core.Path.{◌≡◌, refl, sym, ap, ap₂, ◌∙◌}
 use mathlib.Core.List.{List, [], ◌∷◌, ◌++◌}
-use mathlib.Core.Option.{Option, none, some}
 use mathlib.Core.Bool.{false, not}
 use lib.ListN.{length, drop, replicate-append-replicate}
 use lib.Seq.{take_at, drop_at}
@@ -95,23 +95,23 @@ unfolding bool via below padded list_from_f enum ◌∣◌ nothing
 no_header = ap (λ (x : List ℕ). 0 ∷ 0 ∷ x) (replicate-append-replicate 34 10781 0)
 
 -- the tables of a pass that has staged, seen and observed nothing
-tables_zero : enc_table 9161 [] ++ (enc_table 1057 [] ++ (enc_table 529 [] ++ (field 34 (option short_text) none ++ []))) ≡ zeros 10781
+tables_zero : enc_table 9161 [] ++ (enc_table 1057 [] ++ (enc_table 529 [] ++ (field 34 (option short_text) None ++ []))) ≡ zeros 10781
 tables_zero = more_zeros 9161 1620 (tables.empty_zeros 9161 (omega arith)) (more_zeros 1057 563 (tables.empty_zeros 1057 (omega arith)) (more_zeros 529 34 (tables.empty_zeros 529 (omega arith)) (more_zeros 34 0 no_text refl)))
 
-pub no_pass_bytes : flat (of_pass none) ≡ zeros 10817
+pub no_pass_bytes : flat (of_pass None) ≡ zeros 10817
 unfolding is_some pass_of no_pass map
 no_pass_bytes = ap (λ (x : List ℕ). field 1 bool false ++ (field 1 bool false ++ (field 34 list_from_f ListFrom.Start ++ x))) tables_zero ∙ no_header
 
 from_cursor : (c : Option Cursor) → field 34 list_from_f (start_from c) ≡ field 34 (option short_text) c
 unfolding start_from list_from_f option via enum ◌∣◌ nothing padded
-from_cursor none = refl
-from_cursor (some c) = refl
+from_cursor None = refl
+from_cursor (Some c) = refl
 
-pub new_pass_bytes : (c : Option Cursor) → flat (of_pass (some (new_pass c))) ≡ (1 ∷ bool_from (not (is_some c)) ∷ []) ++ (field 34 (option short_text) c ++ zeros 10781)
+pub new_pass_bytes : (c : Option Cursor) → flat (of_pass (Some (new_pass c))) ≡ (1 ∷ bool_from (not (is_some c)) ∷ []) ++ (field 34 (option short_text) c ++ zeros 10781)
 unfolding new_pass is_some pass_of map bool via below padded
 new_pass_bytes c = ap₂ (λ (x y : List ℕ). 1 ∷ bool_from (not (is_some c)) ∷ (x ++ y)) (from_cursor c) tables_zero
 
-pub new_pass_fits : (c : Option Cursor) → (option short_text).Ok c → PassFits document01 (pass_of (some (new_pass c)))
+pub new_pass_fits : (c : Option Cursor) → (option short_text).Ok c → PassFits document01 (pass_of (Some (new_pass c)))
 unfolding document01 rising keys map pass_of new_pass option via enum ◌∣◌ nothing
 new_pass_fits c ok = record {
   from = start_from_ok c ok;

@@ -1,25 +1,16 @@
--- Where a listing goes on from, by its case and its text apart. Assumes nothing.
-use Rattle.std.specs.Prelude.{ℕ, ◌≡◌, List, []}
-use Rattle.model.specs.Event.{Text}
+-- Where a listing goes on from: what an answer of `from` stands for. Assumes nothing.
+use Rattle.std.specs.Prelude.{◌≤◌, length}
 use Rattle.model.specs.Seam.{ListFrom}
-use Rattle.model.specs.State.{SyncState}
-use Rattle.state.specs.Layout.{pass_of}
-use Rattle.state.specs.Contract.{Keeps}
-use Rattle.pass_header.specs.declared.FromKind.{FromKind}
-use Rattle.pass_header.specs.declared.FromKind.TheVariants as from
+use Rattle.pass_header.specs.declared.ListFrom.{ListFrom as From}
+use Rattle.pass_header.specs.declared.ListFrom.TheVariants as from
 
--- the cursor: empty for a listing from the start
-abbrev pub text_of : ListFrom → Text
-text_of ListFrom.Start = []
-text_of (ListFrom.Since cursor) = cursor
-text_of (ListFrom.Continue cursor) = cursor
+abbrev pub from_in : From → ListFrom
+from_in from.Start = ListFrom.Start
+from_in (from.Since cursor) = ListFrom.Since cursor.now
+from_in (from.Continue cursor) = ListFrom.Continue cursor.now
 
--- what an answer of `from_kind` stands for, with the text that `from_text` answers
-abbrev pub from_in : FromKind → Text → ListFrom
-from_in from.Start text = ListFrom.Start
-from_in from.Since text = ListFrom.Since text
-from_in from.Continue text = ListFrom.Continue text
-
--- the case of where the open pass's listing goes on from
-pub record FromAs (w : List ℕ) (r : FromKind) : Type 0 where
-  pub is : (s : SyncState) → Keeps s w → from_in r (text_of (pass_of s.pass).from) ≡ (pass_of s.pass).from
+-- its text has at most 32 bytes
+abbrev pub IsShort : From → Type 0
+IsShort from.Start = Unit {0}
+IsShort (from.Since cursor) = length cursor.now ≤ 32
+IsShort (from.Continue cursor) = length cursor.now ≤ 32

@@ -1,8 +1,9 @@
 -- The answers to a listing and to a pass's read: each law's premises are what the callees ensure. Assumes nothing.
+use Rattle.std.specs.Prelude.{Option, Some, None}
+use Rattle.format.proofs.Options.{Some-injective, None-ne-Some}
 use Prim.Native.Nat.{ℕ}
 use mathlib.Core.Path.{◌≡◌, refl, sym, ap, ◌∙◌, subst}
 use mathlib.Core.List.{List}
-use mathlib.Core.Option.{Option, none, some, some-injective, none-ne-some}
 use mathlib.Core.Bool.{Bool, true, false, false≢true}
 use Rattle.format.specs.Format.{option, via, enum, ◌∣◌, ◌⊗◌}
 use Rattle.model.specs.Event.{ProviderEvent}
@@ -31,12 +32,12 @@ use Rattle.observe.proofs.Refreshing.{doubts}
 
 -- ---- a page
 
-pub end_is : (s : List ℕ) (place next : Cursor) (v nx : Next) → Means next v next_f s place → read_at next_f s place ≡ some nx → v ≡ nx
+pub end_is : (s : List ℕ) (place next : Cursor) (v nx : Next) → Means next v next_f s place → read_at next_f s place ≡ Some nx → v ≡ nx
 end_is s place next v nx M e = go next.ok (M.is ∙ e)
   where
-    go : (b : Bool) → kept b v ≡ some nx → v ≡ nx
-    go true q = some-injective v nx q
-    go false q = absurd (none-ne-some nx q)
+    go : (b : Bool) → kept b v ≡ Some nx → v ≡ nx
+    go true q = Some-injective v nx q
+    go false q = absurd (None-ne-Some nx q)
 
 pub end_ok : (page : Page) (v : Next) → v ≡ page.next → page_f.Ok page → next_f.Ok v
 unfolding page_f via ◌⊗◌
@@ -55,8 +56,8 @@ unfolding in_pass match◌none:◌some:◌ is_some when◌then◌else◌ pass_of
 in_pass_is body m = go m.state.pass
   where
     go : (o : Option Pass) → (when is_some o then body (pass_of o) m else ok m) ≡ (match o none: ok m some: (λ pass. body pass m))
-    go none = refl
-    go (some p) = refl
+    go None = refl
+    go (Some p) = refl
 
 module _ {w o w' o' : List ℕ} {p q : Progress} {v : Bool} (R : Reads (λ s. is_some s.pass) w v) where
   pub answered : (id : RequestId) (x : Outcome) → v ≡ true → Does (answered_in_pass id x) w o p q w' o' → Does (on_list id x) w o p q w' o'
@@ -214,7 +215,7 @@ module _ {w o w' o' : List ℕ} {p q : Progress} (id : RequestId) (r : ResourceI
   unfolding on_pass_read pass_read_answered answer
   read_event event e D = subst (λ (y : Outcome). Does (on_pass_read id r y) w o p q w' o') (sym e) (runs.is (on_pass_read id r (Outcome.Read event)) (λ m. refl) D)
 
-  pub read_gone : x ≡ Outcome.Failed Failure.NotFound → Does (pass_read_found id r none) w o p q w' o' → Does (on_pass_read id r x) w o p q w' o'
+  pub read_gone : x ≡ Outcome.Failed Failure.NotFound → Does (pass_read_found id r None) w o p q w' o' → Does (on_pass_read id r x) w o p q w' o'
   unfolding on_pass_read pass_read_answered answer answer_failed
   read_gone e D = subst (λ (y : Outcome). Does (on_pass_read id r y) w o p q w' o') (sym e) (runs.is (on_pass_read id r (Outcome.Failed Failure.NotFound)) (λ m. refl) D)
 

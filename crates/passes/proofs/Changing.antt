@@ -1,8 +1,8 @@
 -- Sequencing of functions that are lent the work buffer alone, and the open pass changed. Assumes nothing.
+use Rattle.std.specs.Prelude.{Option, Some, None}
 use Prim.Native.Nat.{ℕ}
 use mathlib.Core.Path.{◌≡◌, refl}
 use mathlib.Core.List.{List}
-use mathlib.Core.Option.{Option, none, some}
 use mathlib.Core.Bool.{Bool, true, false}
 use Rattle.model.specs.State.{Pass, SyncState}
 use Rattle.model.specs.Maps.{when◌then◌else◌}
@@ -42,6 +42,6 @@ pub change_pass_is : (f : Pass → Pass) (m : Machine) → with_state (pass_chan
 unfolding change_pass pass_changed match◌none:◌some:◌ set_pass
 change_pass_is f m = go m.state.pass
   where
-    go : (o : Option Pass) → with_state (match o none: m.state some: (λ pass. with_pass (some (f pass)) m.state)) m ≡ (match o none: m some: (λ pass. set_pass (some (f pass)) m))
-    go none = refl
-    go (some p) = refl
+    go : (o : Option Pass) → with_state (match o none: m.state some: (λ pass. with_pass (Some (f pass)) m.state)) m ≡ (match o none: m some: (λ pass. set_pass (Some (f pass)) m))
+    go None = refl
+    go (Some p) = refl

@@ -1,9 +1,9 @@
 -- The commit of a pass: each law's premises are what the callees ensure. Assumes nothing.
+use Rattle.std.specs.Prelude.{Option, Some, None}
 use Prim.Native.Nat.{ℕ, ◌+◌, ◌-◌, ◌≤◌, ◌<◌}
 use native.Mathlib.Omega.{arith}
 use mathlib.Core.Path.{◌≡◌, refl, sym, ap, ◌∙◌, subst}
 use mathlib.Core.List.{List, [], ◌∷◌, ◌++◌, append_assoc}
-use mathlib.Core.Option.{Option, none, some}
 use mathlib.Core.Bool.{Bool, true, false, not, ◌&&◌, true≢false, false≢true}
 use lib.ListN.{length, take, drop, get_or, take-append-drop}
 use lib.Dec.{leb}
@@ -18,16 +18,16 @@ use Rattle.model.specs.Machine.{Machine, Run, refused, ok, ◌>>=◌, for_each, 
 use Rattle.model.specs.Sync.{is_unread, replaces, put_record, remove_record, read_unread, ready, apply_one, apply_staged, apply_pass, read_observed, try_commit}
 use Rattle.state.specs.Layout.{padded, field, name_slot, pass_of, no_pass}
 use Rattle.state.specs.Setters.{with_records, with_cursor, with_pass, pass_changed}
-use Rattle.state.specs.Contract.{Keeps, HasState, Reads, Edits}
+use Rattle.state.specs.Contract.{state_length, Keeps, HasState, Reads, Edits}
 use Rattle.state.specs.Values.{name_of}
 use Rattle.state.proofs.Padded.{text_name_only}
 use Rattle.state.proofs.Columns as columns
 use Rattle.records.specs.Retaining.{with_seen_records}
 use Rattle.versions.specs.Versions.{HasEvent}
 use Rattle.pass_tables.proofs.Laws as pass-tables
-use Rattle.staged.specs.Staging.{staged_of, staged_at, meant_kind, KindAt, StagedAt}
-use Rattle.staged.specs.declared.StagedKind.{StagedKind}
-use Rattle.staged.specs.declared.StagedKind.TheVariants as kind
+use Rattle.staged.specs.Staging.{staged_of, staged_at, Meant, Inside, StagedAt}
+use Rattle.staged.specs.declared.Staged.{Staged as Answer}
+use Rattle.staged.specs.declared.Staged.TheVariants as answer
 use Rattle.staged.proofs.Laws as staged
 use Rattle.machine.specs.declared.Progress.{Progress}
 use Rattle.machine.specs.Contract.{Does, Changes, Pushes}
@@ -39,26 +39,26 @@ use Rattle.passes.proofs.Walking as walking
 
 -- ---- one entry
 
-module _ (w q : List ℕ) (i : ℕ) (k : StagedKind) (K : HasState w) (N : Reads (λ s. name_slot (staged_at i s).0) w q) (R : KindAt i w k) where
+module _ (w q : List ℕ) (i : ℕ) (k : Answer) (K : HasState w) (N : Reads (λ s. name_slot (staged_at i s).0) w q) (R : StagedAt i w k) where
   named : (s : SyncState) → Keeps s w → name_of q ≡ (staged_at i s).0
   named s h = ap name_of (N.is s h) ∙ text_name_only (staged_at i s).0
 
-  said : (s : SyncState) → Keeps s w → (j : StagedKind) → k ≡ j → meant_kind j (staged_at i s).1
-  said s h j e = subst (λ (x : StagedKind). meant_kind x (staged_at i s).1) e (R.is s h)
+  said : (s : SyncState) → Keeps s w → (j : Answer) → k ≡ j → Meant w j (staged_at i s).1
+  said s h j e = subst (λ (x : Answer). Meant w x (staged_at i s).1) e (R.is s h)
 
-  pub entry_has : (at : ℕ) → k ≡ kind.Present → StagedAt i w at → (at + 882 ≤ length w) × HasEvent w at
+  pub entry_has : (at : ℕ) → k ≡ answer.Present at → (at + 882 ≤ length w) × HasEvent w at
   unfolding padded
-  entry_has at e S =
-      let m = said K.state K.keeps kind.Present e in
+  entry_has at e =
+      let m = said K.state K.keeps (answer.Present at) e in
       let x : ProviderEvent = m.0 in
-      let u = S.is K.state K.keeps x m.1 in (
-        (let l = K.keeps.long in let r = S.room in omega arith),
+      let r : at + 882 ≤ state_length = subst Inside e R.room in (
+        (let l = K.keeps.long in omega arith),
         record {
           event = x;
           stands = record {
-            ok = u.0;
+            ok = m.2;
             rest = zeros (882 - length (event_f.enc x)) ++ drop 882 (drop at w);
-            is = sym (take-append-drop 882 (drop at w)) ∙ ap (λ (y : List ℕ). y ++ drop 882 (drop at w)) u.1 ∙ append_assoc (event_f.enc x) (zeros (882 - length (event_f.enc x))) (drop 882 (drop at w));
+            is = sym (take-append-drop 882 (drop at w)) ∙ ap (λ (y : List ℕ). y ++ drop 882 (drop at w)) m.3 ∙ append_assoc (event_f.enc x) (zeros (882 - length (event_f.enc x))) (drop 882 (drop at w));
           };
         },
       )
@@ -70,22 +70,21 @@ module _ (w q : List ℕ) (i : ℕ) (k : StagedKind) (K : HasState w) (N : Reads
         (λ s h. let x = f s h in (subst (λ (v : Staged). Changes (apply_one (staged_at i s).0 v) w p r w') (sym x.1) x.2).does o);
   }
 
-  pub entry_present : {w' : List ℕ} {p r : Progress} (at : ℕ) → k ≡ kind.Present → StagedAt i w at
+  pub entry_present : {w' : List ℕ} {p r : Progress} (at : ℕ) → k ≡ answer.Present at
       → ((e : ProviderEvent) → event_f.Ok e → take 882 (drop at w) ≡ field 882 event_f e → Changes (put_record (name_of q) e) w p r w') → Changes (apply_at i) w p r w'
   unfolding apply_one
-  entry_present {w'} {p} {r} at e S C = entry_by (λ s h.
-      let m = said s h kind.Present e in
-      let u = S.is s h m.0 m.1 in
-      (Staged.Present m.0, m.1, subst (λ (n : ResourceId). Changes (put_record n m.0) w p r w') (named s h) (C m.0 u.0 u.1)))
+  entry_present {w'} {p} {r} at e C = entry_by (λ s h.
+      let m = said s h (answer.Present at) e in
+      (Staged.Present m.0, m.1, subst (λ (n : ResourceId). Changes (put_record n m.0) w p r w') (named s h) (C m.0 m.2 m.3)))
 
-  pub entry_unread : (p : Progress) → k ≡ kind.Unread → Changes (apply_at i) w p p w
+  pub entry_unread : (p : Progress) → k ≡ answer.Unread → Changes (apply_at i) w p p w
   unfolding apply_one
-  entry_unread p e = entry_by (λ s h. (Staged.Unread, said s h kind.Unread e, changing.no_change))
+  entry_unread p e = entry_by (λ s h. (Staged.Unread, said s h answer.Unread e, changing.no_change))
 
-  pub entry_removed : {w' : List ℕ} (p : Progress) → k ≡ kind.Removed → Edits (λ s. with_records (remove by_name (name_of q) s.records) s) w w' → Changes (apply_at i) w p p w'
+  pub entry_removed : {w' : List ℕ} (p : Progress) → k ≡ answer.Removed → Edits (λ s. with_records (remove by_name (name_of q) s.records) s) w w' → Changes (apply_at i) w p p w'
   unfolding apply_one remove_record set_records
   entry_removed {w'} p e E = entry_by (λ s h.
-      (Staged.Removed, said s h kind.Removed e, subst (λ (n : ResourceId). Changes (λ m. ok (remove_record n m)) w p p w') (named s h) (changing.edits E)))
+      (Staged.Removed, said s h answer.Removed e, subst (λ (n : ResourceId). Changes (λ m. ok (remove_record n m)) w p p w') (named s h) (changing.edits E)))
 
 -- ---- all entries: they leave the pass alone, whatever it is
 
@@ -160,18 +159,18 @@ abbrev done_of : SyncState → SyncState
 done_of s = with_cursor (pass_of s.pass).done s
 
 abbrev finish : Machine → Run
-finish n = push (Effect.Notify Notice.Synced) (with_state (with_pass none (done_of (seen_kept n.state))) n)
+finish n = push (Effect.Notify Notice.Synced) (with_state (with_pass None (done_of (seen_kept n.state))) n)
 
 abbrev settle : Pass → Machine → Run
 settle pass m = tell Notice.Synced (set_cursor pass.done (when pass.full then set_records (retain (λ resource e. has resource pass.seen) m.state.records) m else m))
 
-finish_is : (o : Option Pass) (n : Machine) → finish (set_pass o n) ≡ settle (pass_of o) (set_pass none n)
+finish_is : (o : Option Pass) (n : Machine) → finish (set_pass o n) ≡ settle (pass_of o) (set_pass None n)
 unfolding seen_kept set_pass set_cursor set_records tell retain when◌then◌else◌
 finish_is o n = go (pass_of o).full
   where
     go : (b : Bool)
-        → push (Effect.Notify Notice.Synced) (with_state (with_pass none (done_of (when b then with_seen_records (with_pass o n.state) else with_pass o n.state))) n)
-        ≡ push (Effect.Notify Notice.Synced) (set_cursor (pass_of o).done (when b then set_records (filter (λ e. has e.0 (pass_of o).seen) n.state.records) (set_pass none n) else set_pass none n))
+        → push (Effect.Notify Notice.Synced) (with_state (with_pass None (done_of (when b then with_seen_records (with_pass o n.state) else with_pass o n.state))) n)
+        ≡ push (Effect.Notify Notice.Synced) (set_cursor (pass_of o).done (when b then set_records (filter (λ e. has e.0 (pass_of o).seen) n.state.records) (set_pass None n) else set_pass None n))
     go true = refl
     go false = refl
 
@@ -181,10 +180,10 @@ commit_is m =
     let o : Option Pass = m.state.pass in
     let R : Run = for_each apply_staged (pass_of o).staged m in
     walking.marked R (set_pass o) finish (apply_in (pass_of o).staged o m)
-    ∙ bind_same R (λ n. finish (set_pass o n)) (λ n. settle (pass_of o) (set_pass none n)) (finish_is o)
-    ∙ sym (ap (λ (r : Run). r >>= settle (pass_of o)) (apply_in (pass_of o).staged none m) ∙ bind_assoc R (λ n. ok (set_pass none n)) (settle (pass_of o)))
+    ∙ bind_same R (λ n. finish (set_pass o n)) (λ n. settle (pass_of o) (set_pass None n)) (finish_is o)
+    ∙ sym (ap (λ (r : Run). r >>= settle (pass_of o)) (apply_in (pass_of o).staged None m) ∙ bind_assoc R (λ n. ok (set_pass None n)) (settle (pass_of o)))
 
-pub applied : {w o w₁ w₂ w₃ w₄ o₁ : List ℕ} {p q r : Progress} → Changes apply_all w p q w₁ → Edits seen_kept w₁ w₂ → Edits (λ s. with_cursor (pass_of s.pass).done s) w₂ w₃ → Edits (with_pass none) w₃ w₄
+pub applied : {w o w₁ w₂ w₃ w₄ o₁ : List ℕ} {p q r : Progress} → Changes apply_all w p q w₁ → Edits seen_kept w₁ w₂ → Edits (λ s. with_cursor (pass_of s.pass).done s) w₂ w₃ → Edits (with_pass None) w₃ w₄
     → Pushes (Effect.Notify Notice.Synced) o q r o₁ → Does apply_open w o p r w₄ o₁
 applied {o = o} {w₄ = w₄} C S U X P = runs.is apply_open commit_is (runs.next (C.does o) (runs.edit S (runs.edit U (runs.edit X (P.does w₄)))))
 
@@ -205,12 +204,12 @@ unfolding stage in_pass within change_pass set_pass match◌none:◌some:◌ whe
 stage_in O r m = go m.state.pass
   where
     go : (o : Option Pass) → to_stage r (change_pass (with_observed O) (at_pass o m)) ≡ (to_stage r (at_pass o m) >>= (λ n. ok (change_pass (with_observed O) n)))
-    go none = refl
-    go (some p) = pick (leb (length (insert by_name r Staged.Unread p.staged)) m.limits.staged)
+    go None = refl
+    go (Some p) = pick (leb (length (insert by_name r Staged.Unread p.staged)) m.limits.staged)
       where
         pick : (b : Bool)
-            → (when b then ok (at_pass (some (with_staged (insert by_name r Staged.Unread p.staged) (with_observed O p))) m) else refused 5)
-            ≡ ((when b then ok (at_pass (some (with_staged (insert by_name r Staged.Unread p.staged) p)) m) else refused 5) >>= (λ n. ok (change_pass (with_observed O) n)))
+            → (when b then ok (at_pass (Some (with_staged (insert by_name r Staged.Unread p.staged) (with_observed O p))) m) else refused 5)
+            ≡ ((when b then ok (at_pass (Some (with_staged (insert by_name r Staged.Unread p.staged) p)) m) else refused 5) >>= (λ n. ok (change_pass (with_observed O) n)))
         pick true = refl
         pick false = refl
 
@@ -231,16 +230,16 @@ unfolding stage in_pass within change_pass set_pass match◌none:◌some:◌ whe
 stage_leaves x m h = go m.state.pass h
   where
     go : (o : Option Pass) → 0 < length (pass_of o).observed → walking.Leaves observed_of [] to_stage x (at_pass o m)
-    go none h = absurd (omega arith)
-    go (some p) h = record {
-      mark = λ n. at_pass (some (with_observed p.observed (pass_of n.state.pass))) n;
+    go None h = absurd (omega arith)
+    go (Some p) h = record {
+      mark = λ n. at_pass (Some (with_observed p.observed (pass_of n.state.pass))) n;
       same = pick (leb (length (insert by_name x Staged.Unread p.staged)) m.limits.staged);
       list = λ n. refl;
     }
       where
         pick : (b : Bool)
-            → (when b then ok (at_pass (some (with_staged (insert by_name x Staged.Unread p.staged) p)) m) else refused 5)
-            ≡ ((when b then ok (at_pass (some (with_staged (insert by_name x Staged.Unread p.staged) p)) m) else refused 5) >>= (λ n. ok (at_pass (some (with_observed p.observed (pass_of n.state.pass))) n)))
+            → (when b then ok (at_pass (Some (with_staged (insert by_name x Staged.Unread p.staged) p)) m) else refused 5)
+            ≡ ((when b then ok (at_pass (Some (with_staged (insert by_name x Staged.Unread p.staged) p)) m) else refused 5) >>= (λ n. ok (at_pass (Some (with_observed p.observed (pass_of n.state.pass))) n)))
         pick true = refl
         pick false = refl
 
@@ -323,8 +322,8 @@ tried_is m = go m.state.pass
     go : (o : Option Pass)
         → (when is_some (pass_of o).done && not (any is_unread (values (pass_of o).staged)) then (when is_empty (pass_of o).observed then apply_pass (pass_of o) m else read_observed (pass_of o) m) else ok m)
         ≡ (when is_some_and (λ pass. is_some pass.done && not (any is_unread (values pass.staged))) o then (match o none: ok m some: (λ pass. when is_empty pass.observed then apply_pass pass m else read_observed pass m)) else ok m)
-    go none = refl
-    go (some p) = refl
+    go None = refl
+    go (Some p) = refl
 
 pub tries_it : {w o w' o' : List ℕ} {p q : Progress} {v : Bool} → Reads is_ready w v → v ≡ true → Does commit_open w o p q w' o' → Does try_commit w o p q w' o'
 tries_it R e D = runs.is try_commit tried_is (runs.taken ok R e D)

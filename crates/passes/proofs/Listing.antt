@@ -1,14 +1,12 @@
 -- One change of a page: each law's premises are what the callees ensure. Assumes nothing.
+use Rattle.std.specs.Prelude.{Option, Some, None}
 use Prim.Native.Nat.{ℕ, ◌+◌, ◌-◌}
 use mathlib.Core.Path.{◌≡◌, sym, ap, ◌∙◌, subst}
 use mathlib.Core.List.{List, ◌++◌, append_assoc}
-use mathlib.Core.Option.{Option, none, some}
 use mathlib.Core.Bool.{Bool, true, false}
 use lib.ListN.{length, drop, take-append-drop}
 use Rattle.format.specs.Format.{option, via, enum, ◌∣◌, ◌⊗◌}
 use Rattle.spans.specs.Bytes.{zeros}
-use Rattle.tables.specs.declared.Place.{Place}
-use Rattle.tables.specs.declared.Place.TheVariants.{Found, Missing}
 use Rattle.model.specs.Event.{Text, ProviderRevision, ProviderEvent}
 use Rattle.model.specs.Seam.{RequestId, ResourceId, Change}
 use Rattle.model.specs.State.{Staged, SyncState}
@@ -40,11 +38,11 @@ use Rattle.passes.proofs.Changing as changing
 pub stages : {w w' : List ℕ} {b : Bool} (p : Progress) {q : Progress} (r : ResourceId) (v : Staged) → Tries (may_stage r v) (with_stage r v) w b w' → q ≡ tried_by p b → Changes (stage r v) w p q w'
 stages p r v T e = steps.changed e (opened.staged_tries p r v T)
 
-pub found_nothing : {w w' : List ℕ} {p q : Progress} (r : ResourceId) (o : Option ProviderEvent) → o ≡ none → Changes (stage r Staged.Unread) w p q w' → Changes (stage r (staged_of o)) w p q w'
+pub found_nothing : {w w' : List ℕ} {p q : Progress} (r : ResourceId) (o : Option ProviderEvent) → o ≡ None → Changes (stage r Staged.Unread) w p q w' → Changes (stage r (staged_of o)) w p q w'
 unfolding staged_of
 found_nothing {w} {w'} {p} {q} r o e C = subst (λ (x : Option ProviderEvent). Changes (stage r (staged_of x)) w p q w') (sym e) C
 
-pub found_event : {w w' : List ℕ} {p q : Progress} (r : ResourceId) (o : Option ProviderEvent) (e : ProviderEvent) → o ≡ some e → Changes (stage r (Staged.Present e)) w p q w' → Changes (stage r (staged_of o)) w p q w'
+pub found_event : {w w' : List ℕ} {p q : Progress} (r : ResourceId) (o : Option ProviderEvent) (e : ProviderEvent) → o ≡ Some e → Changes (stage r (Staged.Present e)) w p q w' → Changes (stage r (staged_of o)) w p q w'
 unfolding staged_of
 found_event {w} {w'} {p} {q} r o e d C = subst (λ (x : Option ProviderEvent). Changes (stage r (staged_of x)) w p q w') (sym d) C
 
@@ -58,28 +56,28 @@ record_stands {w = w} {p = p} R = record {
   is = sym (take-append-drop 882 (drop (p + 33) w)) ∙ ap (λ (x : List ℕ). x ++ drop 882 (drop (p + 33) w)) R.bytes ∙ append_assoc (event_f.enc R.event) (zeros (882 - length (event_f.enc R.event))) (drop 882 (drop (p + 33) w));
 }
 
-pub held_is : (name : Text) (rev : ProviderRevision) (w revision : List ℕ) (mapper p : ℕ) (r : Place) (v : Bool) → FindsRecord name w r → r ≡ Found p
+pub held_is : (name : Text) (rev : ProviderRevision) (w revision : List ℕ) (mapper p : ℕ) (r : Option ℕ) (v : Bool) → FindsRecord name w r → r ≡ Some p
     → ((e : ProviderEvent) → Stands e w (p + 33) → VersionOf e revision mapper)
-    → ((h : ProviderEvent) → event_f.Ok h → VersionOf h revision mapper → v ≡ same (option short_text) h.revision (some rev))
-    → Reads (λ s. is_some_and (λ e. same (option short_text) e.revision (some rev)) (get by_name name s.records)) w v
+    → ((h : ProviderEvent) → event_f.Ok h → VersionOf h revision mapper → v ≡ same (option short_text) h.revision (Some rev))
+    → Reads (λ s. is_some_and (λ e. same (option short_text) e.revision (Some rev)) (get by_name name s.records)) w v
 unfolding RecordIs is_some_and
 held_is name rev w revision mapper p r v F e version has = record {
   is = λ s h.
-      let R : RecordAt name w s p = subst (λ (x : Place). RecordIs name w s x) e (F.is s h) in
-      has R.event R.ok (version R.event (record_stands R)) ∙ sym (ap (is_some_and (λ e. same (option short_text) e.revision (some rev))) R.got);
+      let R : RecordAt name w s p = subst (λ (x : Option ℕ). RecordIs name w s x) e (F.is s h) in
+      has R.event R.ok (version R.event (record_stands R)) ∙ sym (ap (is_some_and (λ e. same (option short_text) e.revision (Some rev))) R.got);
 }
 
-pub not_held : (name : Text) (rev : ProviderRevision) (w : List ℕ) (p : ℕ) (r : Place) → FindsRecord name w r → r ≡ Missing p
-    → Reads (λ s. is_some_and (λ e. same (option short_text) e.revision (some rev)) (get by_name name s.records)) w false
+pub not_held : (name : Text) (rev : ProviderRevision) (w : List ℕ) (r : Option ℕ) → FindsRecord name w r → r ≡ None
+    → Reads (λ s. is_some_and (λ e. same (option short_text) e.revision (Some rev)) (get by_name name s.records)) w false
 unfolding RecordIs is_some_and
-not_held name rev w p r F e = record {
-  is = λ s h. sym (ap (is_some_and (λ e. same (option short_text) e.revision (some rev))) (subst (λ (x : Place). RecordIs name w s x) e (F.is s h)));
+not_held name rev w r F e = record {
+  is = λ s h. sym (ap (is_some_and (λ e. same (option short_text) e.revision (Some rev))) (subst (λ (x : Option ℕ). RecordIs name w s x) e (F.is s h)));
 }
 
 -- ---- a change that is not doubtful
 
 module _ {w w' : List ℕ} {p q : Progress} {v : Bool} (r : ResourceId) (t rev : ProviderRevision) (n : t ≡ rev) (event : Option ProviderEvent)
-    (R : Reads (λ s. is_some_and (λ e. same (option short_text) e.revision (some t)) (get by_name r s.records)) w v) where
+    (R : Reads (λ s. is_some_and (λ e. same (option short_text) e.revision (Some t)) (get by_name r s.records)) w v) where
   with_revision : Changes (list_found r t event) w p q w' → Changes (list_found r rev event) w p q w'
   with_revision C = subst (λ (x : ProviderRevision). Changes (list_found r x event) w p q w') n C
 
@@ -88,7 +86,7 @@ module _ {w w' : List ℕ} {p q : Progress} {v : Bool} (r : ResourceId) (t rev :
   held_not e C = with_revision (changing.if_false (λ m. ok (unstage r m)) R e C)
 
 pub held_already : {w w' : List ℕ} {p : Progress} {v : Bool} (r : ResourceId) (t rev : ProviderRevision) → t ≡ rev → (event : Option ProviderEvent)
-    → Reads (λ s. is_some_and (λ e. same (option short_text) e.revision (some t)) (get by_name r s.records)) w v → v ≡ true → Edits (without_stage r) w w' → Changes (list_found r rev event) w p p w'
+    → Reads (λ s. is_some_and (λ e. same (option short_text) e.revision (Some t)) (get by_name r s.records)) w v → v ≡ true → Edits (without_stage r) w w' → Changes (list_found r rev event) w p p w'
 unfolding list_found holds unstage
 held_already {w} {w'} {p} r t rev n event R e E =
     subst (λ (x : ProviderRevision). Changes (list_found r x event) w p p w') n

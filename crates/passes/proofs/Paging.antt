@@ -1,9 +1,9 @@
 -- The changes of a page, one after the other. Assumes nothing.
+use Rattle.std.specs.Prelude.{Some}
 use Prim.Native.Nat.{ℕ, zero, suc, ◌-◌, ◌≤◌, ◌<◌}
 use native.Mathlib.Omega.{arith}
 use mathlib.Core.Path.{◌≡◌, refl, sym, ap, subst}
 use mathlib.Core.List.{List, [], ◌∷◌}
-use mathlib.Core.Option.{some}
 use mathlib.Core.Bool.{true}
 use lib.ListN.{length, take, drop}
 use Rattle.format.specs.Format.{All, below}
@@ -90,13 +90,13 @@ module _ {s : List ℕ} {page : ℕ} {id : RequestId} {w₀ : List ℕ} {p₀ : 
       }
 
 pub paging_end : {s : List ℕ} {page : ℕ} {id : RequestId} {w₀ : List ℕ} {p₀ : Progress} {w : List ℕ} {p : Progress} {place : Cursor} {left : ℕ} → Paging s page id w₀ p₀ w p place left → left ≤ 0
-    → Changes (for_each (list_change id) (page_at s page).changes) w₀ p₀ p w × (read_at next_f s place ≡ some (page_at s page).next)
+    → Changes (for_each (list_change id) (page_at s page).changes) w₀ p₀ p w × (read_at next_f s place ≡ Some (page_at s page).next)
 unfolding for_each skip_n
 paging_end {s} {page} {id} {w₀} {p₀} {w} {p} {place} {left} P l = go left P.rest l P.walk P.all
   where
     go : (n : ℕ) (xs : List Change) → n ≤ 0 → Walk s place n xs (page_at s page).next
         → ((q : Progress) (w' : List ℕ) → Changes (for_each (list_change id) xs) w p q w' → Changes (for_each (list_change id) (page_at s page).changes) w₀ p₀ q w')
-        → Changes (for_each (list_change id) (page_at s page).changes) w₀ p₀ p w × (read_at next_f s place ≡ some (page_at s page).next)
+        → Changes (for_each (list_change id) (page_at s page).changes) w₀ p₀ p w × (read_at next_f s place ≡ Some (page_at s page).next)
     go zero [] l W f = (f p w changing.no_change, W.end)
     go zero (x ∷ xs) l W f = absurd (let h = walk_long W in omega arith)
     go (suc n) xs l W f = absurd (omega arith)

@@ -1,17 +1,14 @@
 -- Passes opened, gone on with and given up: each law's premises are what the callees ensure. Assumes nothing.
+use Rattle.std.specs.Prelude.{Some, None}
 use Prim.Native.Nat.{ℕ, ◌+◌, ◌≤◌}
 use native.Mathlib.Omega.{arith}
-use mathlib.Core.Path.{◌≡◌, refl, sym, ap, ap₂, ◌∙◌, subst}
+use mathlib.Core.Path.{◌≡◌, refl, sym, ap, ◌∙◌, subst}
 use mathlib.Core.List.{List}
-use mathlib.Core.Option.{none, some}
 use mathlib.Core.Bool.{Bool, true, false, not}
 use lib.ListN.{length}
 use lib.Dec.{leb, eqb}
-use Rattle.format.specs.Utf8.{is_text, chars}
 use Rattle.format.specs.Format.{via, enum, ◌∣◌}
 use Rattle.format.specs.Format.{text as textFormat}
-use Rattle.spans.specs.Bytes.{zeros}
-use Rattle.tables.specs.Table.{text}
 use Rattle.model.specs.Event.{Text}
 use Rattle.model.specs.Seam.{ListFrom, Request, Next, Outcome}
 use Rattle.model.specs.State as model
@@ -29,13 +26,9 @@ use Rattle.values.specs.declared.Next as places
 use Rattle.values.specs.declared.Next.TheVariants as next
 use Rattle.effects.specs.Told.{Told}
 use Rattle.pens.specs.declared.Pen.{Pen}
-use Rattle.state.specs.Layout.{padded, pass_of}
+use Rattle.state.specs.Layout.{pass_of}
 use Rattle.state.specs.Setters.{with_pass, with_cursor, with_in_flight, with_learned_all, pass_changed}
 use Rattle.state.specs.Contract.{Keeps, HasState, Reads, Edits}
-use Rattle.state.specs.Values.{Named}
-use Rattle.pass_header.specs.From.{text_of, from_in, FromAs}
-use Rattle.pass_header.specs.declared.FromKind.{FromKind}
-use Rattle.pass_header.specs.declared.FromKind.TheVariants as from
 use Rattle.staged.proofs.Bridge.{pass_full_is}
 use Rattle.machine.specs.declared.Progress.{Progress}
 use Rattle.machine.specs.Contract.{Does, Changes, Pushes}
@@ -48,31 +41,9 @@ use Rattle.observe.proofs.Observing as observing
 
 -- ---- a request for a page
 
-module _ {w o o' : List ℕ} {p q : Pen} (id : ℕ) (k : FromKind) (K : FromAs w k) where
-  asks : (s : SyncState) (f : ListFrom) → f ≡ (pass_of s.pass).from → Told (Effect.Request id (Request.List f)) o o' p q → Told (Effect.Request id (Request.List (pass_of s.pass).from)) o o' p q
-  asks s f e T = subst (λ (x : ListFrom). Told (Effect.Request id (Request.List x)) o o' p q) e T
-
-  pub ask_start : k ≡ from.Start → Told (Effect.Request id (Request.List ListFrom.Start)) o o' p q
-      → (s : SyncState) → Keeps s w → Told (Effect.Request id (Request.List (pass_of s.pass).from)) o o' p q
-  ask_start e T s h = asks s ListFrom.Start (ap (λ (x : FromKind). from_in x (text_of (pass_of s.pass).from)) (sym e) ∙ K.is s h) T
-
-  module _ (t : Text) (X : Reads (λ s. text_of (pass_of s.pass).from) w t) where
-    pub ask_since : k ≡ from.Since → Told (Effect.Request id (Request.List (ListFrom.Since t))) o o' p q
-        → (s : SyncState) → Keeps s w → Told (Effect.Request id (Request.List (pass_of s.pass).from)) o o' p q
-    ask_since e T s h = asks s (ListFrom.Since t) (ap₂ from_in (sym e) (X.is s h) ∙ K.is s h) T
-
-    pub ask_continue : k ≡ from.Continue → Told (Effect.Request id (Request.List (ListFrom.Continue t))) o o' p q
-        → (s : SyncState) → Keeps s w → Told (Effect.Request id (Request.List (pass_of s.pass).from)) o o' p q
-    ask_continue e T s h = asks s (ListFrom.Continue t) (ap₂ from_in (sym e) (X.is s h) ∙ K.is s h) T
-
 pub short_enough : (t : Text) → short_text.Ok t → length t ≤ 255
 unfolding textFormat max_text
 short_enough t k = let h = k.0 in omega arith
-
--- the name beside a listing's purpose
-pub blank : Named (zeros 33)
-unfolding textFormat is_text chars padded text
-blank = record { is = refl; ok = (omega arith, refl) }
 
 abbrev push_from : ℕ → Machine → Run
 push_from id m = push (Effect.Request id (Request.List (pass_of m.state.pass).from)) m
@@ -106,16 +77,16 @@ asked_from {w} {o} {w₁} {o₁} {p} {q} {r} {x} {y} id K R C a T b =
 
 -- ---- opened, opened again, given up
 
-pub started : {w o w₁ w₂ o₂ : List ℕ} {p q : Progress} → Edits (λ s. with_pass (some (new_pass s.cursor)) s) w w₁ → Does request_from w₁ o p q w₂ o₂ → Does start_pass w o p q w₂ o₂
+pub started : {w o w₁ w₂ o₂ : List ℕ} {p q : Progress} → Edits (λ s. with_pass (Some (new_pass s.cursor)) s) w w₁ → Does request_from w₁ o p q w₂ o₂ → Does start_pass w o p q w₂ o₂
 unfolding start_pass request_from set_pass pass_of new_pass
 started E D = runs.is start_pass (λ m. refl) (runs.edit E D)
 
-pub restarted : {w o w₁ w₂ w₃ o₃ : List ℕ} {p q : Progress} → Edits (λ s. with_in_flight (filter (λ e. not (is_pass_read e.1)) s.in_flight) s) w w₁ → Edits (with_cursor none) w₁ w₂
+pub restarted : {w o w₁ w₂ w₃ o₃ : List ℕ} {p q : Progress} → Edits (λ s. with_in_flight (filter (λ e. not (is_pass_read e.1)) s.in_flight) s) w w₁ → Edits (with_cursor None) w₁ w₂
     → Does start_pass w₂ o p q w₃ o₃ → Does restart_pass w o p q w₃ o₃
 unfolding restart_pass drop_in_flight retain set_in_flight set_cursor
 restarted E F D = runs.is restart_pass (λ m. refl) (runs.edit E (runs.edit F D))
 
-pub abandoned : {w o w₁ w₂ o₂ : List ℕ} {p q : Progress} (outcome : Outcome) → Edits (with_pass none) w w₁ → Edits (λ s. with_in_flight (filter (λ e. not (is_of_pass e.1)) s.in_flight) s) w₁ w₂
+pub abandoned : {w o w₁ w₂ o₂ : List ℕ} {p q : Progress} (outcome : Outcome) → Edits (with_pass None) w w₁ → Edits (λ s. with_in_flight (filter (λ e. not (is_of_pass e.1)) s.in_flight) s) w₁ w₂
     → Pushes (Effect.Notify (Notice.ListingFailed (describe outcome))) o p q o₂ → Does (abandon_pass outcome) w o p q w₂ o₂
 unfolding abandon_pass drop_in_flight retain set_in_flight set_pass tell
 abandoned {w₂ = w₂} outcome E F P = runs.is (abandon_pass outcome) (λ m. refl) (runs.edit E (runs.edit F (P.does w₂)))
@@ -130,11 +101,11 @@ more_of c E D = runs.is (after_page (Next.More c)) (λ m. ap (request model.Purp
 abbrev all_learned : Machine → Run
 all_learned m = ok (when pass_full m then set_learned_all m.state.next_request m else m)
 
-module _ {w w₁ : List ℕ} {p : Progress} {v : Bool} (c : Text) (E : Edits (pass_changed (with_done (some c))) w w₁) (F : Reads (λ s. (pass_of s.pass).full) w₁ v) where
+module _ {w w₁ : List ℕ} {p : Progress} {v : Bool} (c : Text) (E : Edits (pass_changed (with_done (Some c))) w w₁) (F : Reads (λ s. (pass_of s.pass).full) w₁ v) where
   done_by : {w₂ : List ℕ} → Changes (λ m. when (pass_of m.state.pass).full then ok (with_state (with_learned_all m.state.next_request m.state) m) else ok m) w₁ p p w₂ → Changes (after_page (Next.Done c)) w p p w₂
   unfolding after_page set_learned_all when◌then◌else◌
   done_by {w₂} C =
-      changing.same_run (after_page (Next.Done c)) (λ m. ap all_learned (changing.change_pass_is (with_done (some c)) m))
+      changing.same_run (after_page (Next.Done c)) (λ m. ap all_learned (changing.change_pass_is (with_done (Some c)) m))
       (changing.after_edit E (changing.same_run all_learned (λ m. go m (pass_full_is m)) C))
     where
       pick : (b : Bool) (m n : Machine) → (when b then ok m else ok n) ≡ ok (when b then m else n)

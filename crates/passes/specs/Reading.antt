@@ -1,5 +1,5 @@
 -- The parts of sync.rs's reading side that the code has as functions of their own. Assumes nothing.
-use Rattle.std.proofs.Math.Option.{Option}
+use Rattle.std.specs.Prelude.{Option}
 use Rattle.model.specs.Event.{ProviderRevision, ProviderEvent}
 use Rattle.model.specs.Seam.{RequestId, ResourceId, Request, Failure, Outcome}
 use Rattle.model.specs.State.{Purpose}

@@ -1,6 +1,5 @@
 // SyncState::on_list: the changes of a page, staged in the open pass.
-ghost use Rattle.std.specs.Prelude.{◌≡◌};
-ghost use Rattle.std.proofs.Math.Option.{some};
+ghost use Rattle.std.specs.Prelude.{◌≡◌, Some};
 ghost use Rattle.format.specs.Format.{option};
 ghost use Rattle.model.specs.Seam as seam;
 ghost use Rattle.model.specs.State.{Staged};
@@ -18,7 +17,6 @@ ghost use Rattle.passes.specs.Reading.{list_found};
 use frame::{Change, Cursor, MAX_CHANGES, TextPart};
 use machine::Progress;
 use names::Name;
-use tables::Place;
 use values::Listed;
 
 fn stage_removed(work: &mut [u8], p: Progress, name: Name) -> Progress
@@ -61,17 +59,11 @@ fn stage_found(work: &mut [u8], p: Progress, frame: &[u8], name: Name, event: us
 fn holds(work: &[u8], name: Name, revision: &[u8]) -> bool
     requires has_state { HasState work.now }
     requires named { (Named name.bytes) × (short_text.Ok revision.now) }
-    ensures { Reads (λ s. is_some_and (λ e. same (option short_text) e.revision (some revision.now)) (get by_name (name_of name.bytes) s.records)) work.now result }
+    ensures { Reads (λ s. is_some_and (λ e. same (option short_text) e.revision (Some revision.now)) (get by_name (name_of name.bytes) s.records)) work.now result }
 {
-    let place = records::find_record(work, name);
-    match place {
-        Place::Found(at) => {
-            let held = versions::version_at(work, at + 33);
-            return versions::has_revision(held, revision);
-        }
-        Place::Missing(at) => {
-            return false;
-        }
+    match records::find_record(work, name) {
+        Some(at) => versions::has_revision(versions::version_at(work, at + 33), revision),
+        None => false,
     }
 }
 
@@ -156,7 +148,7 @@ pub fn list_changes(work: &mut [u8], p: Progress, frame: &[u8], id: u64, page: u
     requires has_state { HasState work.old }
     requires ok { page_f.Ok (page_at frame.now page) }
     ensures changes { Changes (for_each (list_change id) (page_at frame.now page).changes) work.old p result.progress work.new }
-    ensures place_value { read_at next_f frame.now result.place ≡ some (page_at frame.now page).next }
+    ensures place_value { read_at next_f frame.now result.place ≡ Some (page_at frame.now page).next }
 {
     let start = Cursor { at: page, ok: true };
     let count = start.count(frame, MAX_CHANGES);

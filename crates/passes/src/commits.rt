@@ -6,7 +6,8 @@ ghost use Rattle.machine.specs.Contract.{Does, Changes};
 ghost use Rattle.passes.specs.Committing.{apply_at, apply_all, seen_kept, apply_open, stage_all, read_open, is_ready, commit_open};
 
 use machine::Progress;
-use staged::StagedKind;
+use pass_tables::Names;
+use staged::Staged;
 
 // Stores or takes out the record of staged entry i.
 fn apply_entry(work: &mut [u8], p: Progress, i: usize) -> Progress
@@ -15,18 +16,12 @@ fn apply_entry(work: &mut [u8], p: Progress, i: usize) -> Progress
     ensures { Changes (apply_at i) work.old p result work.new }
 {
     let name = staged::staged_name(work, i);
-    let kind = staged::staged_kind(work, i);
-    match kind {
-        StagedKind::Present => {
-            let at = staged::staged_event(work, i);
-            return observe::put_record_at(work, p, name, at);
-        }
-        StagedKind::Unread => {
-            return p;
-        }
-        StagedKind::Removed => {
+    match staged::entry(work, i) {
+        Staged::Present(at) => observe::put_record_at(work, p, name, at),
+        Staged::Unread => p,
+        Staged::Removed => {
             records::remove_record(work, name);
-            return p;
+            p
         }
     }
 }
@@ -74,11 +69,11 @@ fn stage_observed(work: &mut [u8], p: Progress) -> Progress
 {
     let mut progress = p;
     let mut i = 0;
-    let mut count = pass_tables::observed_count(work);
+    let mut count = Names::Observed.count(work);
     while i < count {
-        let name = pass_tables::observed_at(work, i);
+        let name = Names::Observed.at(work, i);
         progress = observe::stage_unread(work, progress, name);
-        count = pass_tables::observed_count(work);
+        count = Names::Observed.count(work);
         i += 1;
     }
     progress
@@ -89,7 +84,7 @@ fn read_observed(work: &mut [u8], out: &mut [u8], p: Progress) -> Progress
     ensures { Does read_open work.old out.old p result work.new out.new }
 {
     let q = stage_observed(work, p);
-    pass_tables::clear_observed(work);
+    Names::Observed.clear(work);
     observe::read_unread(work, out, q)
 }
 
@@ -108,7 +103,7 @@ fn commit(work: &mut [u8], out: &mut [u8], p: Progress) -> Progress
     requires { HasState work.old }
     ensures { Does commit_open work.old out.old p result work.new out.new }
 {
-    if pass_tables::observed_count(work) == 0 {
+    if Names::Observed.count(work) == 0 {
         return apply_pass(work, out, p);
     }
     read_observed(work, out, p)

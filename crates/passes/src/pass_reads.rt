@@ -1,5 +1,5 @@
 // SyncState::on_pass_read
-ghost use Rattle.std.proofs.Math.Option.{none};
+ghost use Rattle.std.specs.Prelude.{None};
 ghost use Rattle.format.specs.Format.{option};
 ghost use Rattle.model.specs.Seam as seam;
 ghost use Rattle.model.specs.Formats.{event_f, outcome_f};
@@ -14,6 +14,7 @@ use crate::starting::abandon_pass;
 use frame::{Failure, Outcome};
 use machine::Progress;
 use names::Name;
+use pass_tables::Names;
 
 fn abandon_if_open(
     work: &mut [u8],
@@ -50,8 +51,7 @@ fn pass_read_found(
     let listed = staged::listed_unread(work, name);
     let q = observe::observe_read(work, p, name, frame, event);
     if listed {
-        pass_tables::remove_observed(work, name);
-        return q;
+        Names::Observed.remove(work, name);
     }
     q
 }
@@ -59,7 +59,7 @@ fn pass_read_found(
 fn pass_read_gone(work: &mut [u8], out: &mut [u8], p: Progress, id: u64, name: Name) -> Progress
     requires has_state { HasState work.old }
     requires named { Named name.bytes }
-    ensures { Does (pass_read_found id (name_of name.bytes) none) work.old out.old p result work.new out.new }
+    ensures { Does (pass_read_found id (name_of name.bytes) None) work.old out.old p result work.new out.new }
 {
     if machine::doubtful(work, id, name) {
         return observe::doubt(work, out, p, name);
@@ -67,8 +67,7 @@ fn pass_read_gone(work: &mut [u8], out: &mut [u8], p: Progress, id: u64, name: N
     let listed = staged::listed_unread(work, name);
     let q = observe::observe_gone(work, p, name);
     if listed {
-        pass_tables::remove_observed(work, name);
-        return q;
+        Names::Observed.remove(work, name);
     }
     q
 }

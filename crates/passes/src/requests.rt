@@ -1,6 +1,6 @@
 // Requests for a page.
 ghost use Rattle.model.specs.Seam as seam;
-ghost use Rattle.model.specs.State.{Purpose, SyncState};
+ghost use Rattle.model.specs.State as model;
 ghost use Rattle.model.specs.Calls.{Effect};
 ghost use Rattle.model.specs.Formats.{short_text};
 ghost use Rattle.model.specs.Machine.{request};
@@ -11,21 +11,19 @@ ghost use Rattle.machine.specs.Contract.{Does};
 ghost use Rattle.passes.specs.Reading.{request_from};
 
 use machine::Progress;
-use names::Name;
-use pass_header::FromKind;
+use pass_header::ListFrom;
 use pens::Pen;
-use state::Kind;
+use state::Purpose;
 
 // Writes the request for the page that the open pass is to go on from.
 fn ask_from(pen: Pen, out: &mut [u8], id: u64, work: &[u8]) -> Pen
     requires { HasState work.now }
-    ensures { (s : SyncState) → Keeps s work.now → Told (Effect.Request id (seam.Request.List (pass_of s.pass).from)) out.old out.new pen result }
+    ensures { (s : model.SyncState) → Keeps s work.now → Told (Effect.Request id (seam.Request.List (pass_of s.pass).from)) out.old out.new pen result }
 {
-    let kind = pass_header::from_kind(work);
-    match kind {
-        FromKind::Start => effects::list_start(pen, out, id),
-        FromKind::Since => effects::list_since(pen, out, id, pass_header::from_text(work)),
-        FromKind::Continue => effects::list_continue(pen, out, id, pass_header::from_text(work)),
+    match pass_header::from(work) {
+        ListFrom::Start => effects::list_start(pen, out, id),
+        ListFrom::Since(cursor) => effects::list_since(pen, out, id, cursor),
+        ListFrom::Continue(cursor) => effects::list_continue(pen, out, id, cursor),
     }
 }
 
@@ -35,8 +33,7 @@ pub fn request_list(work: &mut [u8], out: &mut [u8], p: Progress) -> Progress
     ensures { Does request_from work.old out.old p result work.new out.new }
 {
     let id = state::next_request(work);
-    let name = Name { bytes: [0u8; 33] };
-    let q = machine::reserve(work, p, Kind::List, name);
+    let q = machine::reserve(work, p, Purpose::List);
     let pen = ask_from(machine::pen_of(q), out, id, work);
     machine::sent(q, pen)
 }
@@ -45,11 +42,10 @@ pub fn request_list(work: &mut [u8], out: &mut [u8], p: Progress) -> Progress
 pub fn request_more(work: &mut [u8], out: &mut [u8], p: Progress, cursor: &[u8]) -> Progress
     requires has_state { HasState work.old }
     requires ok { short_text.Ok cursor.now }
-    ensures { Does (request Purpose.List (seam.Request.List (seam.ListFrom.Continue cursor.now))) work.old out.old p result work.new out.new }
+    ensures { Does (request model.Purpose.List (seam.Request.List (seam.ListFrom.Continue cursor.now))) work.old out.old p result work.new out.new }
 {
     let id = state::next_request(work);
-    let name = Name { bytes: [0u8; 33] };
-    let q = machine::reserve(work, p, Kind::List, name);
+    let q = machine::reserve(work, p, Purpose::List);
     let pen = effects::list_continue(machine::pen_of(q), out, id, cursor);
     machine::sent(q, pen)
 }

@@ -1,11 +1,11 @@
 -- Facts of single bytes, each proved by one computation over all of them. Assumes nothing.
 use Prim.Native.Nat.{ℕ, zero, suc, ◌≤◌, ◌<◌}
 use native.Mathlib.Omega.{arith}
-use mathlib.Core.Path.{◌≡◌, refl, sym, ◌∙◌}
+use mathlib.Core.Path.{◌≡◌, refl, ◌∙◌}
 use mathlib.Core.List.{[], ◌∷◌}
 use mathlib.Core.Bool.{Bool, true, false, not, cond, ◌&&◌, ◌||◌, false≢true}
 use lib.Dec.{leb, ltb, eqb}
-use borrow.Author.Tests.{le-leb, lt-ltb, le-ltb, eqb-true, eqb-false}
+use borrow.Author.Tests.{le-leb, lt-ltb, eqb-true, eqb-false}
 use Rattle.format.specs.Utf8.{following, after, chars, is_text}
 use Rattle.io.specs.Digits.{hex_digit_ascii}
 use Rattle.phrases.specs.Shown.{width_of, is_character, is_hidden, is_visible, plain_byte}
@@ -40,45 +40,18 @@ unless_true true b e t = e
 unless_true false b e t = absurd (false≢true t)
 
 -- the first bytes of characters
-widths : ℕ → ℕ
+abbrev pub widths : ℕ → ℕ
 widths b = cond (ltb b 0x80) 1 (cond (ltb b 0xc2) 0 (cond (ltb b 0xe0) 2 (cond (ltb b 0xf0) 3 (cond (ltb b 0xf5) 4 0))))
 
 widths_right : every_below (λ b. eqb (width_of b) (widths b)) 256 ≡ true
-unfolding width_of following widths
+unfolding width_of following
 widths_right = refl
 
-width_is : (b : ℕ) → b < 256 → width_of b ≡ widths b
+pub width_is : (b : ℕ) → b < 256 → width_of b ≡ widths b
 width_is b h = eqb-true (width_of b) (widths b) (at_each (λ b. eqb (width_of b) (widths b)) 256 widths_right b h)
 
-module _ (b : ℕ) (f : b < 256) where
-  pub width_1 : b < 0x80 → 1 ≡ width_of b
-  unfolding widths
-  width_1 h = sym (width_is b f ∙ simp (lt-ltb b 0x80 h))
-
-  pub width_none : 0x80 ≤ b → b < 0xc2 → 0 ≡ width_of b
-  unfolding widths
-  width_none l h = sym (width_is b f ∙ simp (le-ltb b 0x80 l, lt-ltb b 0xc2 h))
-
-  pub width_2 : 0xc2 ≤ b → b < 0xe0 → 2 ≡ width_of b
-  unfolding widths
-  width_2 l h = sym (width_is b f ∙ simp (le-ltb b 0x80 (omega arith), le-ltb b 0xc2 l, lt-ltb b 0xe0 h))
-
-  pub width_3 : 0xe0 ≤ b → b < 0xf0 → 3 ≡ width_of b
-  unfolding widths
-  width_3 l h = sym (width_is b f ∙ simp (le-ltb b 0x80 (omega arith), le-ltb b 0xc2 (omega arith), le-ltb b 0xe0 l, lt-ltb b 0xf0 h))
-
-  pub width_4 : 0xf0 ≤ b → b < 0xf5 → 4 ≡ width_of b
-  unfolding widths
-  width_4 l h =
-      sym (width_is b f ∙ simp (le-ltb b 0x80 (omega arith), le-ltb b 0xc2 (omega arith), le-ltb b 0xe0 (omega arith), le-ltb b 0xf0 l, lt-ltb b 0xf5 h))
-
-  pub width_past : 0xf5 ≤ b → 0 ≡ width_of b
-  unfolding widths
-  width_past l =
-      sym (
-      width_is b f
-      ∙ simp (le-ltb b 0x80 (omega arith), le-ltb b 0xc2 (omega arith), le-ltb b 0xe0 (omega arith), le-ltb b 0xf0 (omega arith), le-ltb b 0xf5 l)
-      )
+pub width_1 : (b : ℕ) → b < 0x80 → width_of b ≡ 1
+width_1 b h = width_is b (omega arith) ∙ simp (lt-ltb b 0x80 h)
 
 -- printable ASCII, and what stands below it
 asciis_right : every_below (λ b. unless (leb 0x20 b) (is_visible (b ∷ []))) 0x7f ≡ true

@@ -1,16 +1,20 @@
 -- Laws of what may be printed: it is well-formed UTF-8; one after the other; plain bytes; the character at the front; writers. Assumes nothing.
-use Prim.Native.Nat.{ℕ, zero, suc, ◌+◌, ◌-◌, ◌/◌, ◌%◌, ◌≤◌, ◌<◌}
+use Rattle.std.specs.Prelude.{Option, Some, None}
+use Prim.Native.Nat.{ℕ, zero, suc, ◌-◌, ◌/◌, ◌%◌, ◌≤◌, ◌<◌}
 use native.Mathlib.Omega.{arith}
 use native.Mathlib.Nat.{mod-lt}
 use mathlib.Core.Path.{◌≡◌, refl, sym, ap, ◌∙◌}
 use mathlib.Core.List.{List, [], ◌∷◌, ◌++◌, append_assoc, append-nil}
-use mathlib.Core.Bool.{Bool, true, false, not, cond, ◌&&◌, ◌||◌, false≢true, and-true, and-false, or-false}
-use mathlib.Core.Option.{Option, none, some}
-use lib.Dec.{T, leb, ltb, eqb}
-use lib.ListN.{length, get_or, take, drop, length-append, length-drop}
+use mathlib.Core.Bool.{Bool, true, false, not, cond, ◌&&◌, false≢true, and-true, and-false}
+use lib.Dec.{T, leb, eqb}
+use lib.ListN.{length, get_or, take, drop, length-append}
 use lib.Seq.{take_at, take_all, length-take-le}
-use borrow.Author.Tests.{lt-ltb, le-ltb, eqb-true, eq-eqb, ne_eqb, leb-true, leb-false, not-true}
-use Rattle.format.specs.Utf8.{Range, following, after, chars, is_text}
+use borrow.Author.Tests.{eqb-true, eq-eqb, ne_eqb, leb-true, not-true}
+use Rattle.std.proofs.Common.{inl, inr}
+use Rattle.std.proofs.lemmas.Bool.{cases_lt}
+use Rattle.std.proofs.lemmas.Grind.{common_steps}
+use Rattle.format.specs.Utf8.{following, after, chars, is_text}
+use Rattle.format.specs.declared.Range.{Range}
 use Rattle.comparison.specs.Bytes.{span}
 use Rattle.io.specs.Digits.{hex_digit_ascii, last_digits}
 use Rattle.pens.specs.declared.Pen.{Pen}
@@ -35,9 +39,9 @@ shown_append {b = b} (one_more c {s = s} v r) t = rw (append_assoc c s b) (one_m
 
 -- what may be printed is well-formed UTF-8
 on : (o : Option (List Range)) (a b : List ℕ) → ((vs : List Range) → chars vs a ≡ true → chars vs b ≡ true)
-    → elim o [ none ↦ false | some vs ↦ chars vs a ] ≡ true → elim o [ none ↦ false | some vs ↦ chars vs b ] ≡ true
-on none a b f h = h
-on (some vs) a b f h = f vs h
+    → elim o [ None ↦ false | Some vs ↦ chars vs a ] ≡ true → elim o [ None ↦ false | Some vs ↦ chars vs b ] ≡ true
+on None a b f h = h
+on (Some vs) a b f h = f vs h
 
 chars_append : (rs : List Range) (a b : List ℕ) → chars rs a ≡ true → chars [] b ≡ true → chars rs (a ++ b) ≡ true
 unfolding chars
@@ -106,9 +110,6 @@ plain_drop zero s t = t
 plain_drop (suc n) [] t = tt
 plain_drop (suc n) (b ∷ s) t = plain_drop n s (right (plain_byte b) (plain s) t)
 
-pub plain_as : {a b : List ℕ} → a ≡ b → T (plain b) → T (plain a)
-plain_as e t = rw e t
-
 pub plain_span : (s : List ℕ) (from to : ℕ) → T (plain s) → T (plain (span s from to))
 plain_span s from to t = plain_take (to - from) (drop from s) (plain_drop from s t)
 
@@ -124,49 +125,22 @@ digits_plain b (suc k) n g h =
 pub digits_shown : (b k n : ℕ) → 0 < b → b ≤ 16 → Shown (last_digits b k n)
 digits_shown b k n g h = plain_shown (last_digits b k n) (digits_plain b k n g h)
 
--- what is hidden, by its first byte
-module _ (s : List ℕ) (b : ℕ) (e : b ≡ get_or s 0 0) where
-  pub hidden_low : b < 0x20 → true ≡ is_hidden s
-  unfolding is_hidden
-  hidden_low h = sym (rw (sym e, lt-ltb b 0x20 h))
-
-  pub hidden_delete : b ≡ 0x7f → true ≡ is_hidden s
-  unfolding is_hidden
-  hidden_delete h = rw (sym e, h)
-
-  pub hidden_latin : (x : ℕ) → x ≡ get_or s 1 0 → b ≡ 0xc2 → ltb x 0xa0 ≡ is_hidden s
-  unfolding is_hidden
-  hidden_latin x f h = rw (sym e, h, sym f) (sym (or-false (ltb x 0xa0)))
-
-  pub hidden_separator : (r : Bool) → r ≡ (eqb (get_or s 1 0) 0x80 && (eqb (get_or s 2 0) 0xa8 || eqb (get_or s 2 0) 0xa9)) → b ≡ 0xe2 → r ≡ is_hidden s
-  unfolding is_hidden
-  hidden_separator r f h = f ∙ rw (sym e, h)
-
-  pub hidden_no : 0x20 ≤ b → (b ≡ 0x7f → ⊥) → (b ≡ 0xc2 → ⊥) → (b ≡ 0xe2 → ⊥) → false ≡ is_hidden s
-  unfolding is_hidden
-  hidden_no l d c f = sym (rw (sym e, le-ltb b 0x20 l, ne_eqb b 0x7f d, ne_eqb b 0xc2 c, ne_eqb b 0xe2 f))
-
 -- the character at the front
 no_first : (s : List ℕ) → get_or s 0 0 < 0x20 → is_visible (take 1 s) ≡ false
 no_first [] h = not-true (is_visible []) none_visible
 no_first (b ∷ s) h = not-true (is_visible (b ∷ [])) (low_hidden b h)
 
-pub front_low : (s : List ℕ) (b : ℕ) → b ≡ get_or s 0 0 → b < 0x20 → 0 ≡ front_of s
+pub front_low : (s : List ℕ) → get_or s 0 0 < 0x20 → front_of s ≡ 0
 unfolding front_of
-front_low s b e h =
-    let l : get_or s 0 0 < 0x20 = omega arith in
-    sym (rw (sym (width_1 (get_or s 0 0) (omega arith) (omega arith)), no_first s l))
+front_low s h = rw (width_1 (get_or s 0 0) (omega arith), no_first s h)
 
 ascii_taken : (s : List ℕ) → 0x20 ≤ get_or s 0 0 → get_or s 0 0 < 0x7f → is_visible (take 1 s) ≡ true
 ascii_taken [] l h = absurd (omega arith)
 ascii_taken (b ∷ s) l h = ascii_visible b l h
 
-pub front_ascii : (s : List ℕ) (b : ℕ) → b ≡ get_or s 0 0 → 0x20 ≤ b → b < 0x7f → 1 ≡ front_of s
+pub front_ascii : (s : List ℕ) → 0x20 ≤ get_or s 0 0 → get_or s 0 0 < 0x7f → front_of s ≡ 1
 unfolding front_of
-front_ascii s b e l h =
-    let m : 0x20 ≤ get_or s 0 0 = omega arith in
-    let k : get_or s 0 0 < 0x7f = omega arith in
-    sym (rw (sym (width_1 (get_or s 0 0) (omega arith) (omega arith)), ascii_taken s m k))
+front_ascii s l h = rw (width_1 (get_or s 0 0) (omega arith), ascii_taken s l h)
 
 -- the character that is taken, where it is whole
 taken_visible : (s : List ℕ) (n : ℕ) → suc n ≡ width_of (get_or s 0 0) → suc n ≤ length s → is_visible (take (suc n) s) ≡ (is_text (take (suc n) s) && not (is_hidden (take (suc n) s)))
@@ -191,15 +165,21 @@ short_hidden (b ∷ s) (suc n) e h =
     let k : eqb (suc (length (take n s))) (width_of b) ≡ false = rw (l, sym e) (ne_eqb (suc (length s)) (suc n) (λ d. omega arith)) in
     rw (k, and-false (is_text (b ∷ take n s)))
 
-pub front_short : (s : List ℕ) (n : ℕ) → n ≡ width_of (get_or s 0 0) → length s < n → 0 ≡ front_of s
+pub front_short : (s : List ℕ) → length s < width_of (get_or s 0 0) → front_of s ≡ 0
 unfolding front_of
-front_short s n e h = sym (rw (sym e, short_hidden s n e h))
+front_short s h = rw (short_hidden s (width_of (get_or s 0 0)) refl h)
 
-pub front_taken : (s : List ℕ) (n r : ℕ) → n ≡ width_of (get_or s 0 0) → n ≤ length s
-    → r ≡ cond (is_text (take n s) && not (is_hidden (take n s))) (length (take n s)) 0 → r ≡ front_of s
+pub front_taken : (s : List ℕ) → width_of (get_or s 0 0) ≤ length s
+    → front_of s ≡ cond (is_text (take (width_of (get_or s 0 0)) s) && not (is_hidden (take (width_of (get_or s 0 0)) s))) (length (take (width_of (get_or s 0 0)) s)) 0
 unfolding front_of
-front_taken s zero r e h f = f ∙ (cut (is_text [] && not (is_hidden [])) 0 refl ∙ sym (cut (is_visible (take (width_of (get_or s 0 0)) s)) (width_of (get_or s 0 0)) (sym e)))
-front_taken s (suc n) r e h f = f ∙ rw (length-take-le (suc n) s h, sym (taken_visible s n e h), sym e)
+front_taken s h = go (width_of (get_or s 0 0)) refl h
+  where
+    go : (n : ℕ) → n ≡ width_of (get_or s 0 0) → n ≤ length s → cond (is_visible (take n s)) n 0 ≡ cond (is_text (take n s) && not (is_hidden (take n s))) (length (take n s)) 0
+    go zero e l = cut (is_visible []) 0 refl ∙ sym (cut (is_text [] && not (is_hidden [])) 0 refl)
+    go (suc n) e l = rw (length-take-le (suc n) s l, taken_visible s n e l)
+
+-- what stands at the front, by how it begins
+pub ruleset fronts = (front_low, front_ascii, front_short, front_taken)
 
 -- a visible character
 front_cases : (s : List ℕ) (n : ℕ) → 0 < n → n ≡ front_of s → (n ≡ width_of (get_or s 0 0)) × (is_visible (take n s) ≡ true)
@@ -213,26 +193,15 @@ front_cases s n h e = go (is_visible (take (width_of (get_or s 0 0)) s)) refl e
 pub front_shown : (s : List ℕ) (n : ℕ) → 0 < n → n ≡ front_of s → Shown (take n s)
 front_shown s n h e = rw append-nil at (one_more (take n s) (to_T (is_visible (take n s)) (front_cases s n h e).1) no_more)
 
-pub front_fits : (s : List ℕ) (n : ℕ) → 0 < n → n ≡ front_of s → n ≤ length s
-front_fits s n h e = go (leb n (length s)) refl
+pub front_fits : (s : List ℕ) → front_of s ≤ length s
+front_fits s = elim (cases_lt (length s) (width_of (get_or s 0 0))) [
+  | inl h ↦ rw (front_short s h) (omega arith)
+  | inr h ↦ rw (front_taken s h) (go (is_text (take (width_of (get_or s 0 0)) s) && not (is_hidden (take (width_of (get_or s 0 0)) s))))
+]
   where
-    c : (n ≡ width_of (get_or s 0 0)) × (is_visible (take n s) ≡ true)
-    c = front_cases s n h e
-
-    go : (t : Bool) → leb n (length s) ≡ t → n ≤ length s
-    go true k = leb-true n (length s) k
-    go false k = absurd (false≢true (sym (short_hidden s n c.0 (leb-false n (length s) k)) ∙ c.1))
-
--- a turn of the walk through a text stays within it
-pub turn_fits : (s : List ℕ) (i n r : ℕ) → i < length s → (0 < n → n ≡ front_of (take (length s - i) (drop i s))) → (0 < n → r ≡ n) → (n ≡ 0 → r ≡ 1) → i + r ≤ length s
-turn_fits s i zero r h e f g = let k : r ≡ 1 = g refl in omega arith
-turn_fits s i (suc n) r h e f g =
-    let p : 0 < suc n = omega arith in
-    let k : r ≡ suc n = f p in
-    let l : suc n ≤ length (take (length s - i) (drop i s)) = front_fits (take (length s - i) (drop i s)) (suc n) p (e p) in
-    let d : length (drop i s) ≡ length s - i = length-drop i s in
-    let m : length (take (length s - i) (drop i s)) ≡ length s - i = length-take-le (length s - i) (drop i s) (omega arith) in
-    omega arith
+    go : (v : Bool) → cond v (length (take (width_of (get_or s 0 0)) s)) 0 ≤ length s
+    go true = grind (arith, common_steps)
+    go false = omega arith
 
 -- writers
 pub shows_none : (s : List ℕ) (p : Pen) → Shows s s p p
@@ -257,6 +226,9 @@ module _ {a b : List ℕ} {p q : Pen} {x : List ℕ} (W : Wrote a b p q x) (s : 
 
   pub shows_wrote : Shows a b p q
   shows_wrote = record { shows = λ R. record { ready = wrote_ready R } }
+
+pub plain_shows : {a b x : List ℕ} {p q : Pen} → Wrote a b p q x → T (plain x) → Shows a b p q
+plain_shows {x = x} W t = shows_wrote W (plain_shown x t)
 
 pub shows_decimal : {a b : List ℕ} {p q : Pen} {n : ℕ} → Decimal a b p q n → Shows a b p q
 shows_decimal {n = n} D = shows_wrote D.wrote (digits_shown 10 D.count n (omega arith) (omega arith))

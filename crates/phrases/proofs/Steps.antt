@@ -1,13 +1,16 @@
 -- Laws of the text of rules. Assumes nothing.
-use Prim.Native.Nat.{ℕ, suc, ◌+◌, ◌-◌, ◌<◌, ◌≤◌}
+use Prim.Native.Nat.{ℕ, ◌+◌, ◌-◌}
 use native.Mathlib.Omega.{arith}
-use native.Mathlib.Numerals.{add-one}
 use mathlib.Core.Path.{◌≡◌, refl, ap}
 use mathlib.Core.List.{List, [], ◌∷◌}
-use mathlib.Core.Bool.{Bool, true, false, cond}
+use mathlib.Core.Bool.{Bool, true, false, cond, not}
 use lib.Dec.{T}
-use lib.ListN.{length, get_or, take, drop, drop_of_length-le}
-use lib.Seq.{drop-cons}
+use lib.ListN.{length, take, drop}
+use Rattle.std.specs.List.{position, position_or_len}
+use Rattle.std.specs.Option.{unwrap_or}
+use Rattle.std.proofs.lemmas.Bool.Decides.{nat_tests}
+use Rattle.std.proofs.lemmas.List.Sums.{prefix_len-le-length}
+use Rattle.std.proofs.lemmas.Grind.{common_steps}
 use Rattle.comparison.specs.Bytes.{span}
 use Rattle.phrases.specs.Shown.{plain_byte, plain}
 use Rattle.phrases.specs.Rules.{ends_step, step_of, step_at}
@@ -22,16 +25,20 @@ step_prefix (b ∷ s) = go (ends_step b) (step_prefix s)
     go true k = refl
     go false k = ap (λ (t : List ℕ). b ∷ t) k
 
--- from one place to the next
-module _ (s : List ℕ) (i : ℕ) where
-  pub step_past : length s ≤ i → length (step_at s i) ≡ 0
-  step_past h = rw (drop_of_length-le s h)
+-- the step ends at the first byte that ends one
+step_length : (s : List ℕ) → length (step_of s) ≡ position_or_len ends_step s
+step_length [] = refl
+step_length (b ∷ s) = go (ends_step b) (step_length s)
+  where
+    go : (e : Bool) → length (step_of s) ≡ position_or_len ends_step s → length (cond e [] (b ∷ step_of s)) ≡ cond (not e) (1 + position_or_len ends_step s) 0
+    go true h = refl
+    go false h = omega arith
 
-  pub step_stops : i < length s → ends_step (get_or s i 0) ≡ true → length (step_at s i) ≡ 0
-  step_stops h e = rw (drop-cons s i 0 h, e)
+pub step_first : (s : List ℕ) → length (step_of s) ≡ unwrap_or (position ends_step s) (length s)
+step_first s = let b = prefix_len-le-length (λ x. not (ends_step x)) s in let l = step_length s in grind (arith, nat_tests)
 
-  pub step_more : i < length s → ends_step (get_or s i 0) ≡ false → length (step_at s i) ≡ suc (length (step_at s (i + 1)))
-  step_more h e = rw (add-one, drop-cons s i 0 h, e)
+pub rest_all : (s : List ℕ) (at : ℕ) → span s at (length s) ≡ drop at s
+rest_all s at = grind (arith, common_steps)
 
 -- a step of a plain text is plain
 plain_step_of : (s : List ℕ) → T (plain s) → T (plain (step_of s))

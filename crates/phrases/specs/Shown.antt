@@ -1,6 +1,5 @@
 -- What may be printed: line feeds, printable ASCII, and whole UTF-8 characters that are no control characters and end no line. Assumes nothing.
-use Rattle.std.specs.Prelude.{ℕ, suc, ◌≤◌, ◌≡◌, List, [], ◌∷◌, ◌++◌, Bool, true, cond, not, ◌&&◌, ◌||◌, T, ltb, eqb, length, get_or, take}
-use Rattle.std.proofs.Math.Option.{none, some}
+use Rattle.std.specs.Prelude.{ℕ, suc, ◌≤◌, ◌≡◌, List, [], ◌∷◌, ◌++◌, Bool, true, cond, not, ◌&&◌, ◌||◌, T, ltb, eqb, length, get_or, take, Some, None}
 use Rattle.format.specs.Utf8.{range, inside, following, is_text}
 use Rattle.io.specs.Digits.{IsDigitCount, last_digits}
 use Rattle.pens.specs.declared.Pen.{Pen}
@@ -8,7 +7,7 @@ use Rattle.pens.specs.Writing.{Wrote}
 
 -- how many bytes the character takes that starts with this byte; 0 where none does
 unfoldable pub width_of : ℕ → ℕ
-width_of b = elim (following b) [ none ↦ 0 | some rs ↦ suc (length rs) ]
+width_of b = elim (following b) [ None ↦ 0 | Some rs ↦ suc (length rs) ]
 
 -- the bytes are one character: well-formed UTF-8, and as many as its first byte says
 unfoldable pub is_character : List ℕ → Bool

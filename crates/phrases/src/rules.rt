@@ -1,37 +1,34 @@
 // Places in a text of rules. A line is a rule: its name and its steps, each behind a |; where a / stands in place of the |, another
 // alternative starts.
-ghost use Rattle.std.specs.Prelude.{◌≡◌, ◌+◌, length};
+ghost use Rattle.std.specs.Prelude.{◌≡◌, ◌+◌, length, position};
 ghost use Rattle.phrases.specs.Rules.{ends_step, step_at};
 
-use comparison::{part, same};
+use comparison::part;
 
 fn ends(b: u8) -> bool
     ensures { result ≡ ends_step b }
 {
-    if b == b'|' {
-        return true;
-    }
-    if b == b'/' {
-        return true;
-    }
-    b == b'\n'
+    matches!(b, b'|' | b'/' | b'\n')
+}
+
+// Where the first byte stands that ends a step.
+fn first_end(rest: &[u8]) -> Option<usize>
+    ensures { result ≡ position ends_step rest.now }
+{
+    rest.iter().position(|b| ends(*b))
 }
 
 // Where the step, or the name, at a place ends.
+#[tactic(auto, using(crate::proofs::Steps::step_first, crate::proofs::Steps::rest_all))]
 fn step_end(rules: &[u8], at: usize) -> usize
     ensures { result ≡ at + length (step_at rules.now at) }
 {
-    let mut end = at;
-    while end < rules.len() {
-        if ends(rules[end]) {
-            return end;
-        }
-        end += 1;
-    }
-    end
+    let rest = part(rules, at, rules.len());
+    at + first_end(rest).unwrap_or(rest.len())
 }
 
 // The step at a place; nothing where a rule or an alternative ends.
+#[tactic(auto, using(crate::proofs::Steps::step_span))]
 pub fn step(rules: &[u8], at: usize) -> &[u8]
     ensures { result.now ≡ step_at rules.now at }
 {
@@ -41,46 +38,33 @@ pub fn step(rules: &[u8], at: usize) -> &[u8]
 // The place behind a step: the next step's, or the end of the rule or the alternative.
 pub fn after(rules: &[u8], at: usize) -> usize {
     let end = step_end(rules, at);
-    if rules.len() <= end {
-        return end;
+    match rules.get(end) {
+        Some(b'|') => end + 1,
+        _ => end,
     }
-    if rules[end] == b'|' {
-        return end + 1;
-    }
-    end
 }
 
-// Where the first step of the rule with this name stands; 0 if there is none.
-pub fn rule(rules: &[u8], name: &[u8]) -> usize {
-    let mut at = 0;
-    while at < rules.len() {
-        let b = rules[at];
-        at += 1;
-        if b == b'\n' {
-            if same(step(rules, at), name) {
-                return after(rules, at);
-            }
+// Where the first step of the rule with this name stands.
+pub fn rule(rules: &[u8], name: &[u8]) -> Option<usize> {
+    for (i, b) in rules.iter().enumerate() {
+        if *b == b'\n' && step(rules, i + 1) == name {
+            return Some(after(rules, i + 1));
         }
     }
-    0
+    None
 }
 
-// Where alternative k, counted from 0, starts of those behind a place; 0 if there are not so many.
-pub fn alternative(rules: &[u8], from: usize, k: u64) -> usize {
-    let mut at = from;
+// Where alternative k, counted from 0, starts of those behind a place, if there are so many.
+pub fn alternative(rules: &[u8], from: usize, k: u64) -> Option<usize> {
+    let rest = part(rules, from, rules.len());
     let mut left = k;
-    while at < rules.len() {
-        let b = rules[at];
-        at += 1;
-        if b == b'\n' {
-            return 0;
-        }
-        if b == b'/' {
-            if left == 0 {
-                return at;
-            }
-            left -= 1;
+    for (i, b) in rest.iter().enumerate() {
+        match b {
+            b'\n' => return None,
+            b'/' if left == 0 => return Some(from + i + 1),
+            b'/' => left -= 1,
+            _ => {}
         }
     }
-    0
+    None
 }

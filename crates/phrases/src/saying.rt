@@ -6,7 +6,8 @@ use crate::reading::Found;
 use crate::writing::{decimal, quoted};
 use pens::Pen;
 
-// Says what was found in the frame s, behind the phrase of the name `last`, or 0.
+// Says what was found in the frame s, behind the phrase of the name `last`, if one was said.
+#[tactic(auto, using(crate::proofs::Printed::plain_at))]
 pub fn say(
     pen: Pen,
     out: &mut [u8],
@@ -14,23 +15,31 @@ pub fn say(
     phrase: &[u8],
     words: &[u8],
     found: Found,
-    last: u8,
+    last: Option<u8>,
 ) -> Pen
-    requires { T (plain phrase.now) × T (plain words.now) }
+    requires plain_phrase { T (plain phrase.now) }
+    requires plain_words { T (plain words.now) }
     ensures { Shows out.old out.new pen result }
 {
     let mut said = pen;
-    let mut i = 0;
-    while i < phrase.len() {
-        said = mark(said, out, s, phrase[i], words, found, last);
-        i += 1;
+    for b in phrase {
+        said = mark(said, out, s, *b, words, found, last);
     }
     said
 }
 
 // What stands for a mark; any other byte stands for itself.
-fn mark(pen: Pen, out: &mut [u8], s: &[u8], b: u8, words: &[u8], found: Found, last: u8) -> Pen
-    requires { T (plain_byte b) × T (plain words.now) }
+fn mark(
+    pen: Pen,
+    out: &mut [u8],
+    s: &[u8],
+    b: u8,
+    words: &[u8],
+    found: Found,
+    last: Option<u8>,
+) -> Pen
+    requires plain_mark { T (plain_byte b) }
+    requires plain_words { T (plain words.now) }
     ensures { Shows out.old out.new pen result }
 {
     match b {
@@ -46,25 +55,22 @@ fn mark(pen: Pen, out: &mut [u8], s: &[u8], b: u8, words: &[u8], found: Found, l
 }
 
 // The comma that is due before an item, unless the first words of one or nothing was said last.
-fn comma(pen: Pen, out: &mut [u8], last: u8) -> Pen
+fn comma(pen: Pen, out: &mut [u8], last: Option<u8>) -> Pen
     ensures { Shows out.old out.new pen result }
 {
     match last {
-        0 => pen,
-        b'>' => pen,
-        b'+' => pen,
+        None | Some(b'>' | b'+') => pen,
         _ => pen.part(out, b", "),
     }
 }
 
 // The dots before what is wrong.
-fn dots(pen: Pen, out: &mut [u8], last: u8) -> Pen
+fn dots(pen: Pen, out: &mut [u8], last: Option<u8>) -> Pen
     ensures { Shows out.old out.new pen result }
 {
     match last {
-        0 => pen,
-        b'>' => pen.part(out, b"... "),
-        b'+' => pen.part(out, b"... "),
+        None => pen,
+        Some(b'>' | b'+') => pen.part(out, b"... "),
         _ => pen.part(out, b" ... "),
     }
 }

@@ -21,11 +21,11 @@ pub fn print_line(text: &mut [u8], pen: Pen)
     requires { Ready text.old pen }
 {
     let end = pen.byte(text, b'\n');
-    if !end.ok {
+    if end.ok {
+        print(part(text, 0, end.at));
+    } else {
         print(b"(a line that is too long to print)\n");
-        return;
     }
-    print(part(text, 0, end.at));
 }
 
 pub fn decimal(pen: Pen, out: &mut [u8], n: u64) -> Pen
@@ -46,15 +46,22 @@ pub fn quoted(pen: Pen, out: &mut [u8], bytes: &[u8]) -> Pen
 }
 
 // Bytes as text: visible characters as they are, any other byte by its number; within quotes also a quote and a backslash.
+#[tactic(auto, using(crate::proofs::Printed::front_fits))]
 pub fn shown(pen: Pen, out: &mut [u8], bytes: &[u8], quotes: bool) -> Pen
     ensures { Shows out.old out.new pen result }
 {
     let mut said = pen;
-    let mut i = 0;
-    while i < bytes.len() {
-        let n = as_it_is(&bytes[i..], quotes);
-        said = put(said, out, &bytes[i..], n);
-        i += taken(n);
+    let mut rest = bytes;
+    while let [first, ..] = rest {
+        let n = as_it_is(rest, quotes);
+        if n == 0 {
+            said = by_number(said, out, *first);
+            rest = &rest[1..];
+        } else {
+            let (character, behind) = rest.split_at(n);
+            said = said.part(out, character);
+            rest = behind;
+        }
     }
     said
 }
@@ -63,42 +70,17 @@ pub fn shown(pen: Pen, out: &mut [u8], bytes: &[u8], quotes: bool) -> Pen
 fn as_it_is(rest: &[u8], quotes: bool) -> usize
     ensures { 0 < result → result ≡ front_of rest.now }
 {
-    let b = byte_at(rest, 0);
-    if quotes {
-        if b == b'"' {
-            return 0;
-        }
-        if b == b'\\' {
-            return 0;
-        }
+    if quotes && matches!(byte_at(rest, 0), b'"' | b'\\') {
+        0
+    } else {
+        front(rest)
     }
-    front(rest)
-}
-
-fn put(pen: Pen, out: &mut [u8], rest: &[u8], n: usize) -> Pen
-    requires { 0 < n → n ≡ front_of rest.now }
-    ensures { Shows out.old out.new pen result }
-{
-    if n == 0 {
-        return by_number(pen, out, byte_at(rest, 0));
-    }
-    pen.part(out, &rest[..n])
 }
 
 fn by_number(pen: Pen, out: &mut [u8], b: u8) -> Pen
     ensures { Shows out.old out.new pen result }
 {
     let mut digits = [0u8; 16];
-    let k = io::hex(b as u64, 2, &mut digits);
+    let k = io::hex(u64::from(b), 2, &mut digits);
     pen.part(out, b"\\x").part(out, &digits[..k])
-}
-
-// How many bytes are behind a turn.
-fn taken(n: usize) -> usize
-    ensures { (1 ≤ result) × (n ≤ result) × (0 < n → result ≡ n) × (n ≡ 0 → result ≡ 1) }
-{
-    if n == 0 {
-        return 1;
-    }
-    n
 }

@@ -1,10 +1,10 @@
 -- From what a step leaves to the line's answer. Assumes nothing.
+use Rattle.std.specs.Prelude.{Option, Some, None}
 use Prim.Native.Nat.{ℕ, ◌+◌, ◌*◌, ◌-◌, ◌≤◌}
 use native.Mathlib.Omega.{arith}
 use mathlib.Core.Path.{◌≡◌, refl, sym, ap, ◌∙◌, subst}
 use mathlib.Core.Bool.{Bool, true, false}
 use mathlib.Core.List.{List, [], ◌∷◌, ◌++◌, append-nil}
-use mathlib.Core.Option.{Option, none, some}
 use borrow.Author.Tests.{le-leb}
 use lib.ListN.{length, take, length-append, length-replicate}
 use lib.Seq.{take_at, length-take-le}
@@ -71,7 +71,7 @@ module _ (s w o frame : Bytes) (ls : length s ≡ 58543) (lw : length w ≡ 5854
   this_call : Call
   this_call = record { work = w; out = o; frame = frame }
 
-  called : (st : SyncState) → read_state document01 s ≡ some st → call document01 st this_call ≡ step_frame document01 st (decode frame)
+  called : (st : SyncState) → read_state document01 s ≡ Some st → call document01 st this_call ≡ step_frame document01 st (decode frame)
   unfolding call lend when◌then◌else◌ this_call
   called st e =
       let h : (state_layout document01).enc st ≡ s = sym ((states_exact document01 s st).0 e).1 in
@@ -82,8 +82,8 @@ module _ (s w o frame : Bytes) (ls : length s ≡ 58543) (lw : length w ≡ 5854
   told_ok = go (read_state document01 s) refl
     where
       go : (st : Option SyncState) → read_state document01 s ≡ st → All effect_f.Ok (effects_of (match st none: Stepped.Refused 2 some: (λ s₁. step_frame document01 s₁ (decode frame))))
-      go none e = tt
-      go (some st) e = subst (λ (r : Stepped). All effect_f.Ok (effects_of r)) (called st e) (effects_valid document01 st ((states_exact document01 s st).0 e).0 this_call)
+      go None e = tt
+      go (Some st) e = subst (λ (r : Stepped). All effect_f.Ok (effects_of r)) (called st e) (effects_valid document01 st ((states_exact document01 s st).0 e).0 this_call)
 
   module _ (s' w' o' : Bytes) (a : Answer) (same : length o' ≡ length o) (is : returned a s' w' o' ≡ entry document01 (lent s w o) frame) where
     abbrev pub after : Stepped

@@ -1,14 +1,15 @@
 -- A line that holds no frame, or bytes that are no input, is answered by 030000 from every state, and the state stays. Assumes nothing.
+use Rattle.std.specs.Prelude.{Option, Some, None, option_and_then}
 use Prim.Native.Nat.{ℕ, zero, suc, ◌+◌, ◌*◌}
 use native.Mathlib.Omega.{arith}
-use mathlib.Core.Path.{◌≡◌, refl, ap, ◌∙◌}
+use mathlib.Core.Path.{◌≡◌, refl, sym, ap, ◌∙◌}
 use mathlib.Core.Bool.{Bool, true, false, ◌&&◌, cond}
 use mathlib.Core.List.{List, [], ◌∷◌, ◌++◌}
-use mathlib.Core.Option.{Option, none, some}
 use borrow.Author.Tests.{lt-leb}
 use lib.ListN.{length}
 use lib.Dec.{leb, ltb}
 use Rattle.lines.specs.Lines.{digit, digits, value, pair, before, undigits, held, max_digits, frame_of}
+use Rattle.lines.proofs.Laws.{frame_long, frame_odd}
 use Rattle.model.specs.Event.{ascii}
 use Rattle.model.specs.State.{SyncState}
 use Rattle.model.specs.Limits.{document01}
@@ -22,46 +23,42 @@ use Rattle.program.specs.Frameless.{long, odd, empty, other, AnswersThree, NoInp
 
 -- ---- the digits of no bytes
 
-before_none : (o : Option ℕ) → before o none ≡ none
-before_none none = refl
-before_none (some b) = refl
+before_none : (o : Option ℕ) → before o None ≡ None
+before_none None = refl
+before_none (Some b) = refl
 
 -- a byte that is no digit makes no pair
-first_other : (a b : ℕ) → value a ≡ 16 → pair a b ≡ none
+first_other : (a b : ℕ) → value a ≡ None → pair a b ≡ None
 unfolding pair
 first_other a b e = rw e
 
-second_other : (a b : ℕ) → value b ≡ 16 → pair a b ≡ none
+abbrev no_byte : ℕ → Option ℕ
+no_byte high = None
+
+-- nothing comes of a pair whose second half is none
+none_after : (o : Option ℕ) → option_and_then no_byte o ≡ None
+none_after None = refl
+none_after (Some high) = refl
+
+second_other : (a b : ℕ) → value b ≡ None → pair a b ≡ None
 unfolding pair
-second_other a b e = rw e (go (ltb (value a) 16))
-  where
-    go : (x : Bool) → cond (x && false) (some (value a * 16 + 16)) none ≡ none
-    go true = refl
-    go false = refl
+second_other a b e = rw e (none_after (value a))
 
-odd_none : (line : Bytes) (half : ℕ) → length line ≡ half + half + 1 → undigits line ≡ none
-unfolding undigits
-odd_none [] half e = absurd (omega arith)
-odd_none (a ∷ []) half e = refl
-odd_none (a ∷ b ∷ s) zero e = absurd (omega arith)
-odd_none (a ∷ b ∷ s) (suc half) e = ap (before (pair a b)) (odd_none s half (omega arith)) ∙ before_none (pair a b)
-
-other_none : (front : Bytes) (byte : ℕ) (back : Bytes) → value byte ≡ 16 → undigits (front ++ byte ∷ back) ≡ none
+other_none : (front : Bytes) (byte : ℕ) (back : Bytes) → value byte ≡ None → undigits (front ++ byte ∷ back) ≡ None
 unfolding undigits
 other_none [] byte [] e = refl
 other_none [] byte (b ∷ back) e = ap (λ (o : Option ℕ). before o (undigits back)) (first_other byte b e)
 other_none (a ∷ []) byte back e = ap (λ (o : Option ℕ). before o (undigits back)) (second_other a byte e)
 other_none (a ∷ b ∷ front) byte back e = ap (before (pair a b)) (other_none front byte back e) ∙ before_none (pair a b)
 
--- no bytes, or too many digits: the empty frame
-empty_held : (b : Bool) (o : Option Bytes) → o ≡ none → cond b (held o) [] ≡ []
+empty_held : (b : Bool) (o : Option Bytes) → o ≡ None → cond b (held o) [] ≡ []
 empty_held true o e = rw e
 empty_held false o e = refl
 
 pub frameless : Frameless
 unfolding frame_of undigits
-frameless line (long h) = rw (lt-leb (length line) max_digits h)
-frameless line (odd half e) = empty_held (leb (length line) max_digits) (undigits line) (odd_none line half e)
+frameless line (long h) = sym (frame_long line h)
+frameless line (odd half e) = sym (frame_odd line (omega arith))
 frameless line empty = refl
 frameless line (other front byte back e) = empty_held (leb (length line) max_digits) (undigits line) (other_none front byte back e)
 
@@ -72,7 +69,7 @@ three : answer_text (Stepped.Refused 3) ≡ ascii "030000" ++ (10 ∷ [])
 unfolding answer_text digits digit
 three = refl
 
-refused_3 : (state : Bytes) (s : SyncState) → read_state document01 state ≡ some s → (frame : Bytes) → decode frame ≡ none → step_bytes document01 state frame ≡ Stepped.Refused 3
+refused_3 : (state : Bytes) (s : SyncState) → read_state document01 state ≡ Some s → (frame : Bytes) → decode frame ≡ None → step_bytes document01 state frame ≡ Stepped.Refused 3
 unfolding step_bytes match◌none:◌some:◌ step_frame
 refused_3 state s e frame d = rw (e, d)
 

@@ -1,10 +1,10 @@
 -- Edits that are folded into others: what the bytes of a waiting operation and of a new one make together. Assumes nothing.
+use Rattle.std.specs.Prelude.{Option, Some, None}
 use Prim.Native.Nat.{ℕ, ◌+◌, ◌-◌, ◌≤◌, ◌<◌}
 use native.Mathlib.Nat.{add-zero}
 use native.Mathlib.Omega.{arith}
 use mathlib.Core.Path.{◌≡◌, refl, sym, ap, ap₂, ◌∙◌, subst}
 use mathlib.Core.List.{List, [], ◌∷◌, ◌++◌, append_assoc}
-use mathlib.Core.Option.{Option, none, some}
 use mathlib.Core.Bool.{Bool, true, false, not}
 use lib.ListN.{length, take, drop, get_or, length-append, length-drop}
 use lib.Seq.{drop-drop, drop_at, take_at, get_or-drop}
@@ -29,8 +29,6 @@ use Rattle.pens.specs.declared.Pen.{Pen}
 use Rattle.pens.specs.Writing.{Wrote}
 use Rattle.pens.proofs.Laws.{wrote_then}
 use Rattle.effects.specs.Sent.{pen}
-use Rattle.tables.specs.declared.Place.{Place}
-use Rattle.tables.specs.declared.Place.TheVariants as table
 use Rattle.state.specs.Contract.{Keeps, Reads}
 use Rattle.state.proofs.Widths as widths
 use Rattle.waiting.specs.Queues.{queue, nth}
@@ -193,7 +191,7 @@ module _ (b frame : List ℕ) (at from to : ℕ) (l : at ≤ length b) (kf : fie
 
   pub updates_apart : {c : List ℕ} → t ≡ false → (base ours : NormalizedEvent) → StandsAt (fields_f ⊗ fields_f) (base, ours) b at → FoldedAs Apart c (fold_update base ours F G)
   unfolding Folds fold_update when◌then◌else◌
-  updates_apart e base ours S = record { is = ap (λ (c : Bool). when c then some (Coalesced.Into (Operation.Update base G)) else none) (sym (tested base ours S) ∙ e) }
+  updates_apart e base ours S = record { is = ap (λ (c : Bool). when c then Some (Coalesced.Into (Operation.Update base G)) else None) (sym (tested base ours S) ∙ e) }
 
   pub updates_fold : {c c₁ c₂ c₃ y : List ℕ} {p p₁ p₂ p₃ : Pen} → 1469 ≤ length c → t ≡ true → PartOf fields_f frame to y → p ≡ pen 0 → Wrote c c₁ p p₁ (1 ∷ []) → Wrote c₁ c₂ p₁ p₂ x₁ → Wrote c₂ c₃ p₂ p₃ y
       → (base ours : NormalizedEvent) → StandsAt (fields_f ⊗ fields_f) (base, ours) b at → FoldedAs (Into p₃.at) c₃ (fold_update base ours F G)
@@ -205,7 +203,7 @@ module _ (b frame : List ℕ) (at from to : ℕ) (l : at ≤ length b) (kf : fie
       record {
         is = record {
           operation = Operation.Update base G;
-          is = ap (λ (c : Bool). when c then some (Coalesced.Into (Operation.Update base G)) else none) (sym (tested base ours S) ∙ e);
+          is = ap (λ (c : Bool). when c then Some (Coalesced.Into (Operation.Update base G)) else None) (sym (tested base ours S) ∙ e);
           ok = o;
           bytes = filled 1469 a (subst (λ (u : List ℕ). Wrote c c₃ p p₃ u) (sym z) (wrote_then W (wrote_then X Y))) ((widths.operation_within).bytes (Operation.Update base G) o) r;
         };
@@ -240,7 +238,7 @@ module _ (b frame : List ℕ) (at from to m : ℕ) (l : at ≤ length b) (kf : f
 
   pub creates_apart : {c : List ℕ} → t ≡ false → (e : ProviderEvent) → StandsAt event_f e b at → FoldedAs Apart c (fold_create e H K)
   unfolding Folds fold_create when◌then◌else◌
-  creates_apart q e S = record { is = ap (λ (c : Bool). when c then some (Coalesced.Into (Operation.Create (with_fields K e))) else none) (sym (compared e S) ∙ q) }
+  creates_apart q e S = record { is = ap (λ (c : Bool). when c then Some (Coalesced.Into (Operation.Create (with_fields K e))) else None) (sym (compared e S) ∙ q) }
 
   pub creates_fold : {c c₁ c₂ c₃ c₄ x y z : List ℕ} {p p₁ p₂ p₃ p₄ : Pen} {n : ℕ} → 1469 ≤ length c → t ≡ true → x ≡ part_of b at m → PartOf fields_f frame to y → EndOf fields_f b m n → PartOf tag b n z
       → p ≡ pen 0 → Wrote c c₁ p p₁ (0 ∷ []) → Wrote c₁ c₂ p₁ p₂ x → Wrote c₂ c₃ p₂ p₃ y → Wrote c₃ c₄ p₃ p₄ z → (e : ProviderEvent) → StandsAt event_f e b at → FoldedAs (Into p₄.at) c₄ (fold_create e H K)
@@ -260,7 +258,7 @@ module _ (b frame : List ℕ) (at from to m : ℕ) (l : at ≤ length b) (kf : f
       record {
         is = record {
           operation = Operation.Create (with_fields K e);
-          is = ap (λ (c : Bool). when c then some (Coalesced.Into (Operation.Create (with_fields K e))) else none) (sym (compared e S) ∙ q);
+          is = ap (λ (c : Bool). when c then Some (Coalesced.Into (Operation.Create (with_fields K e))) else None) (sym (compared e S) ∙ q);
           ok = o;
           bytes = filled 1469 a (subst (λ (u : List ℕ). Wrote c c₄ p p₄ u) (sym g) (wrote_then W (wrote_then X (wrote_then Y L)))) ((widths.operation_within).bytes (Operation.Create (with_fields K e)) o) r;
         };
@@ -366,19 +364,19 @@ module _ (b : List ℕ) (at : ℕ) (next : Edit) {x y : List ℕ} {t : Bool} (P 
 
   pub coalesce_apart : {c : List ℕ} → t ≡ false → (e : Edit) → StandsAt operation_f e.operation b (at + 66) → StandsAt role_f e.role b (at + 1535) → FoldedAs Apart c (coalesce e next)
   unfolding Folds coalesce when◌then◌else◌
-  coalesce_apart q e S R = record { is = ap (λ (u : Bool). when u then fold_operation (not (is_attendee next.role)) e.operation next.operation else none) (sym (roles e R) ∙ q) }
+  coalesce_apart q e S R = record { is = ap (λ (u : Bool). when u then fold_operation (not (is_attendee next.role)) e.operation next.operation else None) (sym (roles e R) ∙ q) }
 
   pub coalesce_so : {c : List ℕ} {r : Folded} (d : Bool) → t ≡ true → d ≡ not (is_attendee next.role) → ((o : Operation) → StandsAt operation_f o b (at + 66) → FoldedAs r c (fold_operation d o next.operation))
       → (e : Edit) → StandsAt operation_f e.operation b (at + 66) → StandsAt role_f e.role b (at + 1535) → FoldedAs r c (coalesce e next)
   unfolding coalesce when◌then◌else◌
   coalesce_so {c} {r} d q k E e S R =
       let f : fold_operation d e.operation next.operation ≡ coalesce e next =
-      ap (λ (u : Bool). fold_operation u e.operation next.operation) k ∙ ap (λ (u : Bool). when u then fold_operation (not (is_attendee next.role)) e.operation next.operation else none) (sym q ∙ roles e R) in
+      ap (λ (u : Bool). fold_operation u e.operation next.operation) k ∙ ap (λ (u : Bool). when u then fold_operation (not (is_attendee next.role)) e.operation next.operation else None) (sym q ∙ roles e R) in
       subst (FoldedAs r c) f (E e.operation S)
 
 -- ---- the newest entry of a queue
 
-few_foldable : (q : Queue) → length q < 2 → foldable q ≡ none
+few_foldable : (q : Queue) → length q < 2 → foldable q ≡ None
 unfolding foldable when◌then◌else◌
 few_foldable q l = rw (lt-leb 2 (length q) l)
 
@@ -394,11 +392,11 @@ module _ (r : ResourceId) (next : Edit) {w : List ℕ} {n : ℕ} (N : Reads (λ 
   unfolding Folds coalesced_with
   newest_none l s h = record { is = ap (λ (x : Option Pending). coalesced_with x next) (few_foldable (queue r s) (subst (λ (i : ℕ). i < 2) (N.is s h) l)) }
 
-  pub newest_missing : {c : List ℕ} → 2 ≤ n → (at : ℕ) {p : Place} → FindsEntry r (n - 1) w p → p ≡ table.Missing at → (s : SyncState) → Keeps s w → FoldedAs Apart c (coalesced_with (foldable (queue r s)) next)
+  pub newest_missing : {c : List ℕ} → 2 ≤ n → {p : Option ℕ} → FindsEntry r (n - 1) w p → p ≡ None → (s : SyncState) → Keeps s w → FoldedAs Apart c (coalesced_with (foldable (queue r s)) next)
   unfolding Folds coalesced_with EntryIs
-  newest_missing l at F e s h = record { is = ap (λ (x : Option Pending). coalesced_with x next) (foldable_is r N l s h ∙ subst (EntryIs r (n - 1) w s) e (F.is s h)) }
+  newest_missing l F e s h = record { is = ap (λ (x : Option Pending). coalesced_with x next) (foldable_is r N l s h ∙ subst (EntryIs r (n - 1) w s) e (F.is s h)) }
 
-  pub newest_so : {c : List ℕ} {f : Folded} → 2 ≤ n → (at : ℕ) {p : Place} → FindsEntry r (n - 1) w p → p ≡ table.Found at
+  pub newest_so : {c : List ℕ} {f : Folded} → 2 ≤ n → (at : ℕ) {p : Option ℕ} → FindsEntry r (n - 1) w p → p ≡ Some at
       → ((e : Edit) → StandsAt operation_f e.operation w (at + 66) → StandsAt role_f e.role w (at + 1535) → FoldedAs f c (coalesce e next))
       → (s : SyncState) → Keeps s w → FoldedAs f c (coalesced_with (foldable (queue r s)) next)
   unfolding coalesced_with EntryIs

@@ -1,4 +1,5 @@
 -- The head of a queue: what its bytes say, and the effects that it gives. Assumes nothing.
+use Rattle.std.specs.Prelude.{Option, Some, None}
 use Prim.Native.Nat.{ℕ, ◌+◌, ◌≤◌, ◌<◌}
 use native.Mathlib.Nat.{add-zero}
 use native.Mathlib.Omega.{arith}
@@ -9,8 +10,6 @@ use lib.Dec.{eqb}
 use lib.ListN.{take, drop, get_or}
 use lib.Seq.{get_or-take, get_or-drop}
 use Rattle.format.specs.Format.{enum, ◌∣◌, via, below, ◌⊗◌}
-use Rattle.tables.specs.declared.Place.{Place}
-use Rattle.tables.specs.declared.Place.TheVariants.{Found, Missing}
 use Rattle.model.specs.Event.{Provider, ProviderEvent}
 use Rattle.model.specs.Seam.{ResourceId}
 use Rattle.model.specs.Seam as seam
@@ -54,7 +53,7 @@ keyed_bytes (Operation.Create e) = ap (λ (n : ℕ). eqb n 1) (event_byte e) ∙
 keyed_bytes (Operation.Update base ours) = refl
 keyed_bytes Operation.Delete = refl
 
-pub keyed : (r : ResourceId) (w : List ℕ) (at : ℕ) (place : Place) (b : Bool) → FindsEntry r 0 w place → place ≡ Found at → b ≡ (eqb (get_or w (at + 66) 0) 0 && eqb (get_or w (at + 66 + 1) 0) 1)
+pub keyed : (r : ResourceId) (w : List ℕ) (at : ℕ) (place : Option ℕ) (b : Bool) → FindsEntry r 0 w place → place ≡ Some at → b ≡ (eqb (get_or w (at + 66) 0) 0 && eqb (get_or w (at + 66 + 1) 0) 1)
     → Reads (λ s. is_some_and (λ p. creates_under_key p.edit.operation) (nth 0 (queue r s))) w b
 unfolding EntryIs is_some_and
 keyed r w at place b F e q = record {
@@ -67,14 +66,14 @@ keyed r w at place b F e q = record {
       q ∙ ap₂ (λ (i j : ℕ). eqb i 0 && eqb j 1) a c ∙ keyed_bytes E.entry.edit.operation ∙ ap (is_some_and (λ p. creates_under_key p.edit.operation)) (sym E.is.got);
 }
 
-pub keyed_none : (r : ResourceId) (w : List ℕ) (at : ℕ) (place : Place) → FindsEntry r 0 w place → place ≡ Missing at
+pub keyed_none : (r : ResourceId) (w : List ℕ) (place : Option ℕ) → FindsEntry r 0 w place → place ≡ None
     → Reads (λ s. is_some_and (λ p. creates_under_key p.edit.operation) (nth 0 (queue r s))) w false
 unfolding EntryIs is_some_and
-keyed_none r w at place F e = record {
+keyed_none r w place F e = record {
   is = λ s h. sym (ap (is_some_and (λ p. creates_under_key p.edit.operation)) (subst (EntryIs r 0 w s) e (F.is s h)));
 }
 
-pub keyed_room : (j : ℕ) (r : ResourceId) (w : List ℕ) (at : ℕ) (place : Place) → HasState w → FindsEntry r j w place → place ≡ Found at → at + 5940 ≤ 55643
+pub keyed_room : (j : ℕ) (r : ResourceId) (w : List ℕ) (at : ℕ) (place : Option ℕ) → HasState w → FindsEntry r j w place → place ≡ Some at → at + 5940 ≤ 55643
 unfolding EntryIs
 keyed_room j r w at place H F e = let E : SomeEntryAt r j w H.state at = subst (EntryIs r j w H.state) e (F.is H.state H.keeps) in E.is.room
 

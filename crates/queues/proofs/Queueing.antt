@@ -1,9 +1,10 @@
 -- `enqueue`: an entry appended, folded into or cancelled, and the resource that an edit is for. Assumes nothing.
+use Rattle.std.specs.Prelude.{Option, Some, None}
+use Rattle.format.proofs.Options.{None-ne-Some}
 use Prim.Native.Nat.{ℕ, suc, ◌-◌, ◌≤◌}
 use native.Mathlib.Omega.{arith}
 use mathlib.Core.Path.{◌≡◌, refl, sym, ap, ap₂, ◌∙◌, subst}
 use mathlib.Core.List.{List, [], ◌∷◌, ◌++◌}
-use mathlib.Core.Option.{Option, none, some, none-ne-some}
 use mathlib.Core.Bool.{Bool, true, false}
 use lib.Dec.{leb}
 use lib.Signed.{le_z}
@@ -26,6 +27,8 @@ use Rattle.model.proofs.Flights.{foldable_back}
 use Rattle.frame.specs.Meaning.{meant_operation}
 use Rattle.frame.specs.declared.Operation as places
 use Rattle.frame.specs.declared.Operation.TheVariants as place_of
+use Rattle.std.specs.Option.{unwrap_or}
+use Rattle.names.specs.declared.Name.{Name}
 use Rattle.state.specs.Values.{name_of, name_in}
 use Rattle.state.specs.Contract.{Keeps, HasState, Reads, Edits, Tries}
 use Rattle.waiting.specs.Queues.{queue, put_queue, all_entries, nth, without, change_last, may_absorb}
@@ -141,37 +144,37 @@ back_out (p ∷ q ∷ qs) =
     let k : length (p ∷ q ∷ qs) - 1 ≡ suc (length (q ∷ qs) - 1) = omega arith in
     ap (λ (i : ℕ). take i (p ∷ q ∷ qs) ++ drop (suc i) (p ∷ q ∷ qs)) k ∙ ap (λ (x : Queue). p ∷ x) (back_out (q ∷ qs))
 
-back_some : (q : Queue) → (length q ≡ 0 → ⊥) → (p : Pending) × (back q ≡ some p)
+back_some : (q : Queue) → (length q ≡ 0 → ⊥) → (p : Pending) × (back q ≡ Some p)
 unfolding back
 back_some [] n = absurd (n refl)
 back_some (p ∷ []) n = (p, refl)
 back_some (p ∷ q ∷ qs) n = back_some (q ∷ qs) (λ z. omega arith)
 
 -- notices, and then an assignment: the other way round
-notify_first_then : (p : Pending) (m : Machine) (s : SyncState → SyncState) (g : Machine → Run) → (notify p none m >>= λ m'. g (with_state (s m'.state) m')) ≡ (notify p none (with_state (s m.state) m) >>= g)
+notify_first_then : (p : Pending) (m : Machine) (s : SyncState → SyncState) (g : Machine → Run) → (notify p None m >>= λ m'. g (with_state (s m'.state) m')) ≡ (notify p None (with_state (s m.state) m) >>= g)
 notify_first_then p m s g =
-    bind_same (model.weaken (notify_state p none m) (λ m' y. ap (λ (x : SyncState). g (with_state (s x) m')) y))
-    ∙ sym (ap (λ (x : Run). x >>= g) (notify_apart p none (s m.state) m) ∙ bind_assoc (notify p none m) (λ m'. s m.state) g)
+    bind_same (model.weaken (notify_state p None m) (λ m' y. ap (λ (x : SyncState). g (with_state (s x) m')) y))
+    ∙ sym (ap (λ (x : Run). x >>= g) (notify_apart p None (s m.state) m) ∙ bind_assoc (notify p None m) (λ m'. s m.state) g)
 
 cancels : (r : ResourceId) (e : Edit) (m : Machine) (n : ℕ) → e.resource ≡ r → n ≡ length (queue r m.state) → (n ≡ 0 → ⊥)
-    → (notify_at (n - 1) r none m >>= λ m'. tell (Notice.Applied e.id [] []) (with_state (put_queue r (without (n - 1) (queue r m'.state)) m'.state) m')) ≡ cancel_last e m
+    → (notify_at (n - 1) r None m >>= λ m'. tell (Notice.Applied e.id [] []) (with_state (put_queue r (without (n - 1) (queue r m'.state)) m'.state) m')) ≡ cancel_last e m
 unfolding notify_at cancel_last cancel match◌none:◌some:◌
 cancels r e m n f k z =
     let Q : Queue = queue r m.state in
     let B = back_some (queue r m.state) (λ y. z (k ∙ y)) in
     let P : Pending = B.0 in
     let g : Machine → Run = tell (Notice.Applied e.id [] []) in
-    let i : nth (n - 1) (queue_of r m) ≡ some B.0 = ap (nth (n - 1)) (queue_is r m) ∙ ap (λ (j : ℕ). nth (j - 1) (queue r m.state)) k ∙ nth_back (queue r m.state) ∙ B.1 in
-    let a : (notify_at (n - 1) r none m >>= λ m'. tell (Notice.Applied e.id [] []) (with_state (put_queue r (without (n - 1) (queue r m'.state)) m'.state) m'))
-    ≡ (notify B.0 none m >>= λ m'. tell (Notice.Applied e.id [] []) (with_state (put_queue r (without (n - 1) (queue r m'.state)) m'.state) m')) =
-    ap (λ (x : Option Pending). (match x none: ok m some: (λ p. notify p none m)) >>= λ m'. tell (Notice.Applied e.id [] []) (with_state (put_queue r (without (n - 1) (queue r m'.state)) m'.state) m')) i in
+    let i : nth (n - 1) (queue_of r m) ≡ Some B.0 = ap (nth (n - 1)) (queue_is r m) ∙ ap (λ (j : ℕ). nth (j - 1) (queue r m.state)) k ∙ nth_back (queue r m.state) ∙ B.1 in
+    let a : (notify_at (n - 1) r None m >>= λ m'. tell (Notice.Applied e.id [] []) (with_state (put_queue r (without (n - 1) (queue r m'.state)) m'.state) m'))
+    ≡ (notify B.0 None m >>= λ m'. tell (Notice.Applied e.id [] []) (with_state (put_queue r (without (n - 1) (queue r m'.state)) m'.state) m')) =
+    ap (λ (x : Option Pending). (match x none: ok m some: (λ p. notify p None m)) >>= λ m'. tell (Notice.Applied e.id [] []) (with_state (put_queue r (without (n - 1) (queue r m'.state)) m'.state) m')) i in
     let b : with_state (put_queue r (without (n - 1) (queue r m.state)) m.state) m ≡ set_queue r (without_back (queue r m.state)) m =
     ap (λ (x : Queue). with_state (put_queue r x m.state) m) (ap (λ (j : ℕ). without (j - 1) (queue r m.state)) k ∙ back_out (queue r m.state)) ∙ sym (set_queue_is r (without_back (queue r m.state)) m) in
     a ∙ notify_first_then B.0 m (λ s. put_queue r (without (n - 1) (queue r s)) s) (tell (Notice.Applied e.id [] []))
-    ∙ ap (λ (x : Machine). notify B.0 none x >>= tell (Notice.Applied e.id [] [])) b
-    ∙ sym (ap (λ (x : ResourceId). match back (queue_of x m) none: ok m some: (λ p. notify p none (set_queue x (without_back (queue_of x m)) m) >>= tell (Notice.Applied e.id [] []))) f
-    ∙ ap (λ (x : Queue). match back x none: ok m some: (λ p. notify p none (set_queue r (without_back x) m) >>= tell (Notice.Applied e.id [] []))) (queue_is r m)
-    ∙ ap (λ (x : Option Pending). match x none: ok m some: (λ p. notify p none (set_queue r (without_back (queue r m.state)) m) >>= tell (Notice.Applied e.id [] []))) B.1)
+    ∙ ap (λ (x : Machine). notify B.0 None x >>= tell (Notice.Applied e.id [] [])) b
+    ∙ sym (ap (λ (x : ResourceId). match back (queue_of x m) none: ok m some: (λ p. notify p None (set_queue x (without_back (queue_of x m)) m) >>= tell (Notice.Applied e.id [] []))) f
+    ∙ ap (λ (x : Queue). match back x none: ok m some: (λ p. notify p None (set_queue r (without_back x) m) >>= tell (Notice.Applied e.id [] []))) (queue_is r m)
+    ∙ ap (λ (x : Option Pending). match x none: ok m some: (λ p. notify p None (set_queue r (without_back (queue r m.state)) m) >>= tell (Notice.Applied e.id [] []))) B.1)
 
 module _ (r : ResourceId) (e : Edit) (f : e.resource ≡ r) {w : List ℕ} {n : ℕ} (N : Reads (λ s. length (queue r s)) w n) where
   cancel_empty : (m : Machine) → 0 ≡ length (queue r m.state) → ok m ≡ cancel_last e m
@@ -186,7 +189,7 @@ module _ (r : ResourceId) (e : Edit) (f : e.resource ≡ r) {w : List ℕ} {n : 
   pub cancel_none : {o : List ℕ} {p : Progress} → n ≡ 0 → Does (cancel_last e) w o p p w o
   cancel_none z = runs.is_held (cancel_last e) (λ m h. cancel_empty m (sym z ∙ N.is m.state h.keeps)) runs.nothing
 
-  pub cancel_next : {o o₁ w₁ o₂ : List ℕ} {p q s : Progress} → (n ≡ 0 → ⊥) → Does (notify_at (n - 1) r none) w o p q w o₁ → Edits (λ s. put_queue r (without (n - 1) (queue r s)) s) w w₁ → (i : Text) → i ≡ e.id → Pushes (Effect.Notify (Notice.Applied i [] [])) o₁ q s o₂
+  pub cancel_next : {o o₁ w₁ o₂ : List ℕ} {p q s : Progress} → (n ≡ 0 → ⊥) → Does (notify_at (n - 1) r None) w o p q w o₁ → Edits (λ s. put_queue r (without (n - 1) (queue r s)) s) w w₁ → (i : Text) → i ≡ e.id → Pushes (Effect.Notify (Notice.Applied i [] [])) o₁ q s o₂
       → Does (cancel_last e) w o p s w₁ o₂
   unfolding tell
   cancel_next {w₁ = w₁} z D E i j P₀ =
@@ -206,20 +209,20 @@ empty_refused = refl
 
 same_folding : (x : Option Pending) (r : ResourceId) (e : Edit) → coalesced_with x (with_resource r e) ≡ coalesced_with x e
 unfolding coalesced_with coalesce with_resource
-same_folding none r e = refl
-same_folding (some p) r e = refl
+same_folding None r e = refl
+same_folding (Some p) r e = refl
 
-place_none : (q : Queue) (x : Option Pending) (e : Edit) (m : Machine) → place q x none e m ≡ append q e m
+place_none : (q : Queue) (x : Option Pending) (e : Edit) (m : Machine) → place q x None e m ≡ append q e m
 unfolding place
-place_none q none e m = refl
-place_none q (some p) e m = refl
+place_none q None e m = refl
+place_none q (Some p) e m = refl
 
-some_foldable : (x : Option Pending) (e : Edit) (c : Coalesced) → coalesced_with x e ≡ some c → (p : Pending) × (x ≡ some p)
+some_foldable : (x : Option Pending) (e : Edit) (c : Coalesced) → coalesced_with x e ≡ Some c → (p : Pending) × (x ≡ Some p)
 unfolding coalesced_with
-some_foldable none e c k = absurd (none-ne-some c k)
-some_foldable (some p) e c k = (p, refl)
+some_foldable None e c k = absurd (None-ne-Some c k)
+some_foldable (Some p) e c k = (p, refl)
 
-folds_so : (q : Queue) (p : Pending) (op : Operation) (e : Edit) (m : Machine) → m.limits ≡ document01 → queue_of e.resource m ≡ q → back q ≡ some p → fold_last op e m ≡ fold_in op p (without_back q) e m
+folds_so : (q : Queue) (p : Pending) (op : Operation) (e : Edit) (m : Machine) → m.limits ≡ document01 → queue_of e.resource m ≡ q → back q ≡ Some p → fold_last op e m ≡ fold_in op p (without_back q) e m
 unfolding fold_last fold_in may_absorb change_last match◌none:◌some:◌ document01
 folds_so q p op e m l k b = rw (k, b, l)
 
@@ -253,21 +256,21 @@ module _ (r : ResourceId) (e : Edit) {w c : List ℕ} {x : Folded} (C : (s : Syn
   cancelled_so : (m : Machine) → Keeps m.state w → x ≡ Cancelled → cancel_last E m ≡ enqueue_live E m
   unfolding cancel_last Folds with_resource place match◌none:◌some:◌
   cancelled_so m h q =
-      let k : coalesced_with (foldable (queue r m.state)) E ≡ some Coalesced.Cancelled = folding m.state h Cancelled q in
+      let k : coalesced_with (foldable (queue r m.state)) E ≡ Some Coalesced.Cancelled = folding m.state h Cancelled q in
       let P = some_foldable (foldable (queue r m.state)) E Coalesced.Cancelled k in
-      let b : back (queue r m.state) ≡ some P.0 = foldable_back (queue r m.state) P.0 P.1 in
+      let b : back (queue r m.state) ≡ Some P.0 = foldable_back (queue r m.state) P.0 P.1 in
       ap (λ (z : Queue). match back z none: ok m some: (λ p. cancel p (without_back z) E m)) (queue_is r m)
       ∙ ap (λ (z : Option Pending). match z none: ok m some: (λ p. cancel p (without_back (queue r m.state)) E m)) b
-      ∙ sym (live m ∙ ap (λ (z : Option Coalesced). place (queue r m.state) (foldable (queue r m.state)) z E m) k ∙ ap (λ (z : Option Pending). place (queue r m.state) z (some Coalesced.Cancelled) E m) P.1)
+      ∙ sym (live m ∙ ap (λ (z : Option Coalesced). place (queue r m.state) (foldable (queue r m.state)) z E m) k ∙ ap (λ (z : Option Pending). place (queue r m.state) z (Some Coalesced.Cancelled) E m) P.1)
 
   into_so : (m : Machine) → m.limits ≡ document01 → Keeps m.state w → (n : ℕ) → (q : x ≡ Into n) → (I : FoldedInto n c (coalesced_with (foldable (queue r m.state)) E)) → fold_last I.operation E m ≡ enqueue_live E m
   unfolding place
   into_so m l h n q I =
       let k : queue_of E.resource m ≡ queue r m.state = ap (λ (x : ResourceId). queue_of x m) (resource_is r e) ∙ queue_is r m in
       let P = some_foldable (foldable (queue r m.state)) E (Coalesced.Into I.operation) I.is in
-      let b : back (queue r m.state) ≡ some P.0 = foldable_back (queue r m.state) P.0 P.1 in
+      let b : back (queue r m.state) ≡ Some P.0 = foldable_back (queue r m.state) P.0 P.1 in
       folds_so (queue r m.state) P.0 I.operation E m l k b
-      ∙ sym (live m ∙ ap (λ (z : Option Coalesced). place (queue r m.state) (foldable (queue r m.state)) z E m) I.is ∙ ap (λ (z : Option Pending). place (queue r m.state) z (some (Coalesced.Into I.operation)) E m) P.1)
+      ∙ sym (live m ∙ ap (λ (z : Option Coalesced). place (queue r m.state) (foldable (queue r m.state)) z E m) I.is ∙ ap (λ (z : Option Pending). place (queue r m.state) z (Some (Coalesced.Into I.operation)) E m) P.1)
 
   pub live_apart : {o w' o' : List ℕ} {p q : Progress} → x ≡ Apart → Does (append_to E) w o p q w' o' → Does (enqueue_live E) w o p q w' o'
   live_apart k D = runs.is_held (enqueue_live E) (λ m h. apart_so m h.keeps k) D
@@ -304,21 +307,16 @@ module _ (e : Edit) {w : List ℕ} {b : Bool} (B : b ≡ is_create e.operation) 
   unfolding target_of when◌then◌else◌
   target_create z q = record { is = λ s h. q ∙ sym (ap (λ (c : Bool). when c then e.resource else (match get by_name e.resource s.aliases none: e.resource some: (λ to. to))) (sym B ∙ z)) }
 
-  pub target_alias : (n t : List ℕ) (f : Bool) → b ≡ false → n ≡ e.resource → Reads (λ s. get by_name n s.aliases) w (name_in f t) → f ≡ true → Reads (target_of e) w (name_of t)
+  pub target_other : (n : Name) (x : Option Name) → b ≡ false → name_of n.bytes ≡ e.resource → Reads (λ s. get by_name (name_of n.bytes) s.aliases) w (name_in x) → Reads (target_of e) w (name_of (unwrap_or x n).bytes)
   unfolding target_of when◌then◌else◌ match◌none:◌some:◌
-  target_alias n t f z q A k = record {
-    is = λ s h.
-        let a : some (name_of t) ≡ get by_name e.resource s.aliases = ap (λ (c : Bool). name_in c t) (sym k) ∙ A.is s h ∙ ap (λ (x : List ℕ). get by_name x s.aliases) q in
-        sym (ap (λ (c : Bool). when c then e.resource else (match get by_name e.resource s.aliases none: e.resource some: (λ to. to))) (sym B ∙ z) ∙ ap (λ x. match x none: e.resource some: (λ to. to)) (sym a));
+  target_other n x z q A = record {
+    is = λ s h. followed x q ∙ sym (ap (λ (c : Bool). when c then e.resource else (match get by_name e.resource s.aliases none: e.resource some: (λ to. to))) (sym B ∙ z)
+        ∙ ap (λ y. match y none: e.resource some: (λ to. to)) (ap (λ (k : List ℕ). get by_name k s.aliases) (sym q) ∙ sym (A.is s h)));
   }
-
-  pub target_same : (n t : List ℕ) (f : Bool) → b ≡ false → n ≡ e.resource → Reads (λ s. get by_name n s.aliases) w (name_in f t) → f ≡ false → Reads (target_of e) w n
-  unfolding target_of when◌then◌else◌ match◌none:◌some:◌
-  target_same n t f z q A k = record {
-    is = λ s h.
-        let a : none ≡ get by_name e.resource s.aliases = ap (λ (c : Bool). name_in c t) (sym k) ∙ A.is s h ∙ ap (λ (x : List ℕ). get by_name x s.aliases) q in
-        q ∙ sym (ap (λ (c : Bool). when c then e.resource else (match get by_name e.resource s.aliases none: e.resource some: (λ to. to))) (sym B ∙ z) ∙ ap (λ x. match x none: e.resource some: (λ to. to)) (sym a));
-  }
+    where
+      followed : (x : Option Name) → name_of n.bytes ≡ e.resource → name_of (unwrap_or x n).bytes ≡ (match name_in x none: e.resource some: (λ to. to))
+      followed None q = q
+      followed (Some to) q = refl
 
 pub creates : (s : List ℕ) {o : places.Operation} (event : ℕ) → o ≡ place_of.Create event → true ≡ is_create (meant_operation s o)
 unfolding is_create
@@ -340,8 +338,8 @@ follows e m = go (is_create e.operation) (get by_name e.resource m.state.aliases
   where
     go : (b : Bool) (x : Option ResourceId) → (when b then e else (match x none: e some: (λ to. with_resource to e))) ≡ with_resource (when b then e.resource else (match x none: e.resource some: (λ to. to))) e
     go true x = refl
-    go false none = refl
-    go false (some to) = refl
+    go false None = refl
+    go false (Some to) = refl
 
 module _ (e : Edit) {w : List ℕ} {b : Bool} (R : Reads (λ s. is_some_and (λ now. is_some_and (λ at. le_z at now) e.expires_at) s.now) w b) where
   expiry_is : (m : Machine) → Keeps m.state w → b ≡ expired e m

@@ -1,12 +1,14 @@
 -- `start_edit` and `finish`: what each does in terms of the other, and that the queue's length falls at each round. Assumes nothing.
-use Prim.Native.Nat.{ℕ, ◌+◌, ◌-◌, ◌*◌, ◌<◌}
+use Rattle.std.specs.Prelude.{Option, Some, None}
+use Rattle.format.proofs.Options.{None-ne-Some}
+use Prim.Native.Nat.{ℕ, ◌+◌, ◌*◌, ◌<◌}
 use native.Mathlib.Omega.{arith}
 use mathlib.Core.Path.{◌≡◌, refl, sym, ap, ◌∙◌, subst}
 use mathlib.Core.List.{List, [], ◌∷◌, ◌++◌}
-use mathlib.Core.Option.{Option, none, some}
 use mathlib.Core.Bool.{Bool, true, false}
 use lib.Dec.{leb, T}
 use lib.ListN.{length, take, drop}
+use Rattle.std.specs.declared.cmp.Ordering.TheVariants.{Equal}
 use Rattle.tables.specs.Table.{slots_of}
 use Rattle.model.specs.Event.{ProviderEvent}
 use Rattle.model.specs.Seam.{ResourceId}
@@ -28,6 +30,8 @@ use Rattle.state.specs.Values.{name_of}
 use Rattle.state.specs.Contract.{HasState, Reads, Edits}
 use Rattle.state.proofs.Regions.{layout_same}
 use Rattle.waiting.specs.Queues.{queue, queue_in, put_queue, nth, without}
+use Rattle.waiting.specs.declared.readers.OperationCase.{OperationCase}
+use Rattle.waiting.specs.declared.readers.OperationCase.TheVariants as Case
 use Rattle.waiting.specs.Reading.{case_of, operation_case_of, by_attendee}
 use Rattle.waiting.specs.Slots.{tallied}
 use Rattle.waiting.proofs.Bridge.{queue_is, put_is, set_queue_is}
@@ -43,63 +47,68 @@ use Rattle.queues.proofs.Heads.{head_is}
 
 -- ---- how a head begins
 
-no_case : (o : Operation) → case_of o ≡ 3 → ⊥
-no_case (Operation.Create e) q = omega arith
-no_case (Operation.Update a b) q = omega arith
-no_case Operation.Delete q = omega arith
-
 attendee_is : (x : Role) → by_attendee x ≡ is_attendee x
 unfolding by_attendee is_attendee
 attendee_is Role.Owner = refl
 attendee_is (Role.Attendee a) = refl
 
-begins_nothing : (x : Option Pending) → 3 ≡ operation_case_of x → Start.Nothing ≡ begins_as x
-unfolding operation_case_of begins_as
-begins_nothing none e = refl
-begins_nothing (some p) e = absurd (no_case p.edit.operation (sym e))
+-- cases told apart by a number
+abbrev case_number : Option OperationCase → ℕ
+case_number None = 0
+case_number (Some Case.Create) = 1
+case_number (Some Case.Update) = 2
+case_number (Some Case.Delete) = 3
 
-begins_writing : (x : Option Pending) (b : Bool) → 0 ≡ operation_case_of x → b ≡ is_some_and (λ p. creates_under_key p.edit.operation) x → begins_write b ≡ begins_as x
+no_case : {a b : Option OperationCase} → a ≡ b → (case_number a ≡ case_number b → ⊥) → ⊥
+no_case e k = k (ap case_number e)
+
+begins_writing : (x : Option Pending) (b : Bool) → Some Case.Create ≡ operation_case_of x → b ≡ is_some_and (λ p. creates_under_key p.edit.operation) x → begins_write b ≡ begins_as x
 unfolding operation_case_of begins_as begins_by is_some_and creates_under_key
-begins_writing none b e k = absurd (omega arith)
-begins_writing (some p) b e k = go p.edit.operation e k
+begins_writing None b e k = absurd (None-ne-Some Case.Create (sym e))
+begins_writing (Some p) b e k = go p.edit.operation e k
   where
-    go : (o : Operation) → 0 ≡ case_of o → b ≡ creates_under_key o → begins_write b ≡ begins_by o p.edit.role
+    go : (o : Operation) → Some Case.Create ≡ Some (case_of o) → b ≡ creates_under_key o → begins_write b ≡ begins_by o p.edit.role
     go (Operation.Create event) e k = ap begins_write k
-    go (Operation.Update base ours) e k = absurd (omega arith)
-    go Operation.Delete e k = absurd (omega arith)
+    go (Operation.Update base ours) e k = absurd (no_case e (λ n. omega arith))
+    go Operation.Delete e k = absurd (no_case e (λ n. omega arith))
 
-begins_deleting : (x : Option Pending) (b : Bool) → 2 ≡ operation_case_of x → b ≡ is_some_and (λ p. by_attendee p.edit.role) x → begins_delete b ≡ begins_as x
+begins_deleting : (x : Option Pending) (b : Bool) → Some Case.Delete ≡ operation_case_of x → b ≡ is_some_and (λ p. by_attendee p.edit.role) x → begins_delete b ≡ begins_as x
 unfolding operation_case_of begins_as begins_by is_some_and
-begins_deleting none b e k = absurd (omega arith)
-begins_deleting (some p) b e k = go p.edit.operation e
+begins_deleting None b e k = absurd (None-ne-Some Case.Delete (sym e))
+begins_deleting (Some p) b e k = go p.edit.operation e
   where
-    go : (o : Operation) → 2 ≡ case_of o → begins_delete b ≡ begins_by o p.edit.role
-    go (Operation.Create event) e = absurd (omega arith)
-    go (Operation.Update base ours) e = absurd (omega arith)
+    go : (o : Operation) → Some Case.Delete ≡ Some (case_of o) → begins_delete b ≡ begins_by o p.edit.role
+    go (Operation.Create event) e = absurd (no_case e (λ n. omega arith))
+    go (Operation.Update base ours) e = absurd (no_case e (λ n. omega arith))
     go Operation.Delete e = ap begins_delete (k ∙ attendee_is p.edit.role)
 
-begins_reading : (x : Option Pending) (c : ℕ) → c ≡ operation_case_of x → (c ≡ 3 → ⊥) → (c ≡ 0 → ⊥) → (c ≡ 2 → ⊥) → Start.Read ≡ begins_as x
+begins_otherwise : (x : Option Pending) → Some Case.Update ≡ operation_case_of x → Start.Read ≡ begins_as x
 unfolding operation_case_of begins_as begins_by
-begins_reading none c e a b d = absurd (a e)
-begins_reading (some p) c e a b d = go p.edit.operation e
+begins_otherwise None e = absurd (None-ne-Some Case.Update (sym e))
+begins_otherwise (Some p) e = go p.edit.operation e
   where
-    go : (o : Operation) → c ≡ case_of o → Start.Read ≡ begins_by o p.edit.role
-    go (Operation.Create event) e = absurd (b e)
+    go : (o : Operation) → Some Case.Update ≡ Some (case_of o) → Start.Read ≡ begins_by o p.edit.role
+    go (Operation.Create event) e = absurd (no_case e (λ n. omega arith))
     go (Operation.Update base ours) e = refl
-    go Operation.Delete e = absurd (d e)
+    go Operation.Delete e = absurd (no_case e (λ n. omega arith))
 
-module _ (r : ResourceId) {w : List ℕ} {c : ℕ} (C : Reads (λ s. operation_case_of (nth 0 (queue r s))) w c) where
-  pub begin_none : c ≡ 3 → Reads (λ s. begins_as (nth 0 (queue r s))) w Start.Nothing
+begins_nothing : (x : Option Pending) → None ≡ operation_case_of x → Start.Nothing ≡ begins_as x
+unfolding operation_case_of begins_as
+begins_nothing None e = refl
+begins_nothing (Some p) e = absurd (None-ne-Some (case_of p.edit.operation) e)
+
+module _ (r : ResourceId) {w : List ℕ} {c : Option OperationCase} (C : Reads (λ s. operation_case_of (nth 0 (queue r s))) w c) where
+  pub begin_none : c ≡ None → Reads (λ s. begins_as (nth 0 (queue r s))) w Start.Nothing
   begin_none e = record { is = λ s h. begins_nothing (nth 0 (queue r s)) (sym e ∙ C.is s h) }
 
-  pub begin_write : (b b' : Bool) → c ≡ 0 → Reads (λ s. is_some_and (λ p. creates_under_key p.edit.operation) (nth 0 (queue r s))) w b → b ≡ b' → Reads (λ s. begins_as (nth 0 (queue r s))) w (begins_write b')
-  begin_write b b' e L k = record { is = λ s h. begins_writing (nth 0 (queue r s)) b' (sym e ∙ C.is s h) (sym k ∙ L.is s h) }
+  pub begin_write : (b : Bool) {b' : Bool} → c ≡ Some Case.Create → Reads (λ s. is_some_and (λ p. creates_under_key p.edit.operation) (nth 0 (queue r s))) w b' → b' ≡ b → Reads (λ s. begins_as (nth 0 (queue r s))) w (begins_write b)
+  begin_write b e L k = record { is = λ s h. begins_writing (nth 0 (queue r s)) b (sym e ∙ C.is s h) (sym k ∙ L.is s h) }
 
-  pub begin_delete : (b b' : Bool) → c ≡ 2 → Reads (λ s. is_some_and (λ p. by_attendee p.edit.role) (nth 0 (queue r s))) w b → b ≡ b' → Reads (λ s. begins_as (nth 0 (queue r s))) w (begins_delete b')
-  begin_delete b b' e L k = record { is = λ s h. begins_deleting (nth 0 (queue r s)) b' (sym e ∙ C.is s h) (sym k ∙ L.is s h) }
+  pub begin_delete : (b : Bool) {b' : Bool} → c ≡ Some Case.Delete → Reads (λ s. is_some_and (λ p. by_attendee p.edit.role) (nth 0 (queue r s))) w b' → b' ≡ b → Reads (λ s. begins_as (nth 0 (queue r s))) w (begins_delete b)
+  begin_delete b e L k = record { is = λ s h. begins_deleting (nth 0 (queue r s)) b (sym e ∙ C.is s h) (sym k ∙ L.is s h) }
 
-  pub begin_read : (c ≡ 3 → ⊥) → (c ≡ 0 → ⊥) → (c ≡ 2 → ⊥) → Reads (λ s. begins_as (nth 0 (queue r s))) w Start.Read
-  begin_read x y z = record { is = λ s h. begins_reading (nth 0 (queue r s)) c (C.is s h) x y z }
+  pub begin_read : c ≡ Some Case.Update → Reads (λ s. begins_as (nth 0 (queue r s))) w Start.Read
+  begin_read e = record { is = λ s h. begins_otherwise (nth 0 (queue r s)) (sym e ∙ C.is s h) }
 
 -- ---- start_edit
 
@@ -117,7 +126,7 @@ number_of Start.Read = 2
 number_of (Start.Finish rejection) = 3
 
 abbrev started : ResourceId → Option Pending → Machine → Run
-started r x m = match x none: ok m some: (λ p. start_head r p.edit.operation p.edit.role (finish r (some Rejection.NotOwner) m) m)
+started r x m = match x none: ok m some: (λ p. start_head r p.edit.operation p.edit.role (finish r (Some Rejection.NotOwner) m) m)
 
 -- what `start_head` does, by how the head begins
 abbrev begun : Start → Run → Run → Run → (Rejection → Run) → Run
@@ -139,25 +148,25 @@ deletes_so false x y z u = refl
 module _ (r : ResourceId) (m : Machine) where
   -- the write of an entry that creates; another's is not asked for
   abbrev written : Option ProviderEvent → Run
-  written none = ok m
-  written (some event) = request (Purpose.EditWrite r) (seam.Request.Create r event) m
+  written None = ok m
+  written (Some event) = request (Purpose.EditWrite r) (seam.Request.Create r event) m
 
   starts_op : (o : Operation) (x : Role) (k : Rejection → Run) → start_head r o x (k Rejection.NotOwner) m ≡ begun (begins_by o x) (ok m) (written (created_by o)) (read_for_edit r m) k
   unfolding start_head begins_by created_by
-  starts_op (Operation.Create event) x k = sym (writes_so (assigns_ids event) (ok m) (written (some event)) (read_for_edit r m) k)
+  starts_op (Operation.Create event) x k = sym (writes_so (assigns_ids event) (ok m) (written (Some event)) (read_for_edit r m) k)
   starts_op (Operation.Update base ours) x k = refl
   starts_op Operation.Delete x k = sym (deletes_so (is_attendee x) (ok m) (ok m) (read_for_edit r m) k)
 
-  starts_as : (x : Option Pending) → started r x m ≡ begun (begins_as x) (ok m) (written (created x)) (read_for_edit r m) (λ rejection. finish r (some rejection) m)
+  starts_as : (x : Option Pending) → started r x m ≡ begun (begins_as x) (ok m) (written (created x)) (read_for_edit r m) (λ rejection. finish r (Some rejection) m)
   unfolding begins_as created match◌none:◌some:◌
-  starts_as none = refl
-  starts_as (some p) = starts_op p.edit.operation p.edit.role (λ rejection. finish r (some rejection) m)
+  starts_as None = refl
+  starts_as (Some p) = starts_op p.edit.operation p.edit.role (λ rejection. finish r (Some rejection) m)
 
-  pub start_is : T (rising by_name (keys m.state.edits)) → start_edit r m ≡ begun (begins_as (nth 0 (queue r m.state))) (ok m) (written (created (nth 0 (queue r m.state)))) (read_for_edit r m) (λ rejection. finish r (some rejection) m)
+  pub start_is : T (rising by_name (keys m.state.edits)) → start_edit r m ≡ begun (begins_as (nth 0 (queue r m.state))) (ok m) (written (created (nth 0 (queue r m.state)))) (read_for_edit r m) (λ rejection. finish r (Some rejection) m)
   start_is t = start_edit_is r m t ∙ ap (λ (x : Option Pending). started r x m) (sym (head_is r m)) ∙ starts_as (nth 0 (queue r m.state))
 
 -- a head that is to be written has an event
-event_by : (o : Operation) (x : Role) → 1 ≡ number_of (begins_by o x) → (event : ProviderEvent) × (created_by o ≡ some event)
+event_by : (o : Operation) (x : Role) → 1 ≡ number_of (begins_by o x) → (event : ProviderEvent) × (created_by o ≡ Some event)
 unfolding begins_by created_by
 event_by (Operation.Create event) x e = (event, refl)
 event_by (Operation.Update base ours) x e = absurd (omega arith)
@@ -167,34 +176,34 @@ event_by Operation.Delete x e = absurd (go (is_attendee x) e)
     go true e = omega arith
     go false e = omega arith
 
-event_in : (x : Option Pending) → 1 ≡ number_of (begins_as x) → (event : ProviderEvent) × (created x ≡ some event)
+event_in : (x : Option Pending) → 1 ≡ number_of (begins_as x) → (event : ProviderEvent) × (created x ≡ Some event)
 unfolding begins_as created
-event_in none e = absurd (omega arith)
-event_in (some p) e = event_by p.edit.operation p.edit.role e
+event_in None e = absurd (omega arith)
+event_in (Some p) e = event_by p.edit.operation p.edit.role e
 
 pub start_nothing : (r : ResourceId) {w o : List ℕ} {p : Progress} {b : Beginning} → Reads (λ s. begins_as (nth 0 (queue r s))) w (meant_beginning b) → b ≡ Begin.Nothing → Does (start_edit r) w o p p w o
 start_nothing r B e = runs.is_held (start_edit r)
-    (λ m h. sym (start_is r m h.keeps.fits.edits.rises ∙ ap (λ (x : Start). begun x (ok m) (written r m (created (nth 0 (queue r m.state)))) (read_for_edit r m) (λ rejection. finish r (some rejection) m)) (sym (B.is m.state h.keeps) ∙ ap meant_beginning e)))
+    (λ m h. sym (start_is r m h.keeps.fits.edits.rises ∙ ap (λ (x : Start). begun x (ok m) (written r m (created (nth 0 (queue r m.state)))) (read_for_edit r m) (λ rejection. finish r (Some rejection) m)) (sym (B.is m.state h.keeps) ∙ ap meant_beginning e)))
     runs.nothing
 
 module _ (r : ResourceId) {w o w' o' : List ℕ} {p q : Progress} {b : Beginning} (B : Reads (λ s. begins_as (nth 0 (queue r s))) w (meant_beginning b)) where
   pub start_read : b ≡ Begin.Read → Does (read_for_edit r) w o p q w' o' → Does (start_edit r) w o p q w' o'
   start_read e d = runs.is_held (start_edit r)
-      (λ m h. sym (start_is r m h.keeps.fits.edits.rises ∙ ap (λ (x : Start). begun x (ok m) (written r m (created (nth 0 (queue r m.state)))) (read_for_edit r m) (λ rejection. finish r (some rejection) m)) (sym (B.is m.state h.keeps) ∙ ap meant_beginning e)))
+      (λ m h. sym (start_is r m h.keeps.fits.edits.rises ∙ ap (λ (x : Start). begun x (ok m) (written r m (created (nth 0 (queue r m.state)))) (read_for_edit r m) (λ rejection. finish r (Some rejection) m)) (sym (B.is m.state h.keeps) ∙ ap meant_beginning e)))
       d
 
-  pub start_finish : b ≡ Begin.NotOwner → Does (finish r (some Rejection.NotOwner)) w o p q w' o' → Does (start_edit r) w o p q w' o'
+  pub start_finish : b ≡ Begin.NotOwner → Does (finish r (Some Rejection.NotOwner)) w o p q w' o' → Does (start_edit r) w o p q w' o'
   start_finish e d = runs.is_held (start_edit r)
-      (λ m h. sym (start_is r m h.keeps.fits.edits.rises ∙ ap (λ (x : Start). begun x (ok m) (written r m (created (nth 0 (queue r m.state)))) (read_for_edit r m) (λ rejection. finish r (some rejection) m)) (sym (B.is m.state h.keeps) ∙ ap meant_beginning e)))
+      (λ m h. sym (start_is r m h.keeps.fits.edits.rises ∙ ap (λ (x : Start). begun x (ok m) (written r m (created (nth 0 (queue r m.state)))) (read_for_edit r m) (λ rejection. finish r (Some rejection) m)) (sym (B.is m.state h.keeps) ∙ ap meant_beginning e)))
       d
 
-  pub start_create : b ≡ Begin.Create → HasState w → ((event : ProviderEvent) → Reads (λ s. created (nth 0 (queue r s))) w (some event) → Does (request (Purpose.EditWrite r) (seam.Request.Create r event)) w o p q w' o') → Does (start_edit r) w o p q w' o'
+  pub start_create : b ≡ Begin.Create → HasState w → ((event : ProviderEvent) → Reads (λ s. created (nth 0 (queue r s))) w (Some event) → Does (request (Purpose.EditWrite r) (seam.Request.Create r event)) w o p q w' o') → Does (start_edit r) w o p q w' o'
   start_create e H d =
       let E = event_in (nth 0 (queue r H.state)) (ap number_of (sym (ap meant_beginning e) ∙ B.is H.state H.keeps)) in
-      let R : Reads (λ s. created (nth 0 (queue r s))) w (some E.0) = subst (Reads (λ s. created (nth 0 (queue r s))) w) E.1 (reads_any (λ s. created (nth 0 (queue r s))) H) in
+      let R : Reads (λ s. created (nth 0 (queue r s))) w (Some E.0) = subst (Reads (λ s. created (nth 0 (queue r s))) w) E.1 (reads_any (λ s. created (nth 0 (queue r s))) H) in
       runs.is_held (start_edit r)
       (λ m h. sym (start_is r m h.keeps.fits.edits.rises
-      ∙ ap (λ (x : Start). begun x (ok m) (written r m (created (nth 0 (queue r m.state)))) (read_for_edit r m) (λ rejection. finish r (some rejection) m)) (sym (B.is m.state h.keeps) ∙ ap meant_beginning e)
+      ∙ ap (λ (x : Start). begun x (ok m) (written r m (created (nth 0 (queue r m.state)))) (read_for_edit r m) (λ rejection. finish r (Some rejection) m)) (sym (B.is m.state h.keeps) ∙ ap meant_beginning e)
       ∙ ap (written r m) (sym (R.is m.state h.keeps))))
       (d E.0 R)
 
@@ -273,10 +282,10 @@ module _ (r : ResourceId) (rejection : Option Rejection) {w : List ℕ} {n : ℕ
 
 -- the entries whose key is the name
 abbrev pub queue_length : List ℕ → List ℕ → ℕ
-queue_length b w = tallied true b (slots_of 5940 (take (20002 + 35641 - 20002) (drop 20002 w)))
+queue_length b w = tallied Equal b (slots_of 5940 (take 35641 (drop 20002 w)))
 
 pub length_read : (b w : List ℕ) → Reads (λ s. length (queue (name_of b) s)) w (queue_length b w)
-length_read b w = splices.reads_own b w (queue_length b w) (name_of b) refl (waiting.tallied_in true b w (queue_length b w) refl)
+length_read b w = splices.reads_own b w (queue_length b w) (name_of b) refl (waiting.tallied_in Equal b w (queue_length b w) refl)
 
 put_found : (r : ResourceId) (s : SyncState) (q : Queue) → T (rising by_name (keys s.edits)) → queue r (put_queue r q s) ≡ q
 unfolding queue_in

@@ -1,32 +1,28 @@
 -- Expiry, and the parts of an edit as they are written into a buffer. Assumes nothing.
-use Prim.Native.Nat.{ℕ, suc, ◌-◌, ◌^◌, ◌≤◌, ◌<◌, Ordering}
+use Rattle.std.specs.Prelude.{Some, None}
+use Prim.Native.Nat.{ℕ, ◌≤◌}
 use native.Mathlib.Omega.{arith}
 use mathlib.Core.Path.{◌≡◌, refl, sym, ap, ap₂, ◌∙◌, subst}
 use mathlib.Core.List.{List, [], ◌∷◌, ◌++◌}
-use mathlib.Core.Option.{Option, none, some, some-injective, none-ne-some}
 use mathlib.Core.Bool.{Bool, true, false, not, false≢true}
-use lib.Dec.{T, compare_is_eq, ltb}
-use lib.IntN.{ℤ, pos, negsuc, ◌-ℤ◌, nat_abs}
-use lib.Signed.{le_z, lt_z, non_neg, mag}
-use borrow.Author.Tests.{ltb-true, le-ltb}
+use lib.IntN.{ℤ}
+use lib.Signed.{le_z}
 use lib.ListN.{length, take, drop}
 use lib.Seq.{take_at}
 use mir.Syntax.{w64}
-use mir.Val.{of_z, to_z, Fits, SFits}
-use mir.Facts.{to_z-of_z}
-use Rattle.format.specs.Format.{Format, Lawful, Got, option, stamp, is_time, text, enum, ◌∣◌, via, nothing, big_endian, ◌⊗◌}
-use Rattle.format.proofs.FormatLaws.{time_fits}
+use mir.Val.{of_z}
+use Rattle.format.specs.Format.{Format, Lawful, Got, option, stamp, text, enum, ◌∣◌, via, nothing, big_endian, ◌⊗◌}
 use Rattle.model.specs.Event.{Text, NormalizedEvent}
 use Rattle.model.specs.Parts as parts
 use Rattle.model.specs.Edits as edits
 use Rattle.model.specs.Formats.{short_text, role_f, operation_f, fields_f, event_f}
 use Rattle.model.specs.Limits.{max_text}
-use Rattle.model.specs.Maps.{is_some_and, by_name, same_text}
+use Rattle.model.specs.Maps.{is_some_and, same_text}
 use Rattle.model.specs.Sync.{is_attendee}
-use Rattle.spans.specs.Compare.{order}
-use Rattle.spans.specs.declared.Order.{Order}
-use Rattle.spans.specs.declared.Order.TheVariants.{Less, Equal, Greater}
-use Rattle.state.proofs.Orders.{flipped, name_order}
+use Rattle.std.specs.Cmp.Lexicographic.{pointwise, nat_list_eq_equiv}
+use Rattle.std.proofs.Common.{nat_eq}
+use Rattle.spans.proofs.Laws.{same_bytes}
+use Rattle.state.proofs.Ops.{equal_same}
 use Rattle.model.proofs.FormatsLaws.{fields_f_law, event_f_law}
 use Rattle.model.proofs.ValidParts.{create_ok, update_ok}
 use Rattle.frame.specs.Read.{stepped, skips, value_of, value_at}
@@ -43,75 +39,9 @@ use Rattle.pens.specs.declared.Pen.{Pen}
 use Rattle.pens.specs.Writing.{Wrote, Stands}
 use Rattle.pens.proofs.Laws.{wrote_then}
 use Rattle.effects.specs.Sent.{pen}
-use Rattle.state.specs.Values.{number_in, bits_in}
-use Rattle.state.specs.declared.Numbered.{Numbered}
-use Rattle.state.specs.declared.Numbered.TheVariants as numbered
-use Rattle.state.specs.Contract.{Reads}
 use Rattle.state.proofs.Widths as widths
 use Rattle.queues.proofs.Notices.{create_bytes}
 use Rattle.queues.specs.Parts.{StandsAt, PartOf, Filled}
-
--- ---- bits of a time
-
-no_below : (n : ℕ) → ltb n 0 ≡ true → ⊥
-no_below n e = let h : n < 0 = ltb-true n 0 e in omega arith
-
-minus_neg : (n : ℕ) → negsuc 0 -ℤ negsuc n ≡ pos n
-minus_neg n =
-    let h : ltb (suc n) 1 ≡ false = le-ltb (suc n) 1 (omega arith) in
-    let k : suc n - 1 ≡ n = omega arith in
-    rw (h, k)
-
--- −1 − z for a z below 0
-below_is : (z : ℤ) → lt_z z (pos 0) ≡ true → negsuc 0 -ℤ z ≡ pos (mag z)
-below_is (pos n) e = absurd (no_below n e)
-below_is (negsuc n) e = minus_neg n
-
-below_back : (z : ℤ) → SFits w64 z → lt_z z (pos 0) ≡ true → 18446744073709551615 - mag z ≡ of_z w64 z
-below_back (pos n) F e = absurd (no_below n e)
-below_back (negsuc n) F e = let l : n < 2 ^ 63 = F.sfits in let h : 18446744073709551615 - n ≡ 2 ^ 64 - suc n = omega arith in h
-
--- x is what the code has in z's place
-module _ (z : ℤ) {x : ℤ} (q : x ≡ z) (F : SFits w64 z) (e : lt_z x (pos 0) ≡ true) where
-  negative : lt_z z (pos 0) ≡ true
-  negative = ap (λ (y : ℤ). lt_z y (pos 0)) (sym q) ∙ e
-
-  below_x : negsuc 0 -ℤ x ≡ pos (mag z)
-  below_x = ap (λ (y : ℤ). negsuc 0 -ℤ y) q ∙ below_is z negative
-
-  pub below_fits : SFits w64 (negsuc 0 -ℤ x)
-  below_fits = subst (SFits w64) (sym below_x) (record { sfits = F.sfits })
-
-  below_value : to_z w64 (of_z w64 (negsuc 0 -ℤ x)) ≡ pos (mag z)
-  below_value = to_z-of_z below_fits ∙ below_x
-
-  pub below_cast : T (non_neg (to_z w64 (of_z w64 (negsuc 0 -ℤ x)))) × Fits w64 (nat_abs (to_z w64 (of_z w64 (negsuc 0 -ℤ x))))
-  below_cast =
-      let l : mag z < 2 ^ 63 = F.sfits in
-      subst (λ (y : ℤ). T (non_neg y) × Fits w64 (nat_abs y)) (sym below_value) (tt, record { fits = let h : mag z < 2 ^ 64 = omega arith in h })
-
-  pub below_most : nat_abs (to_z w64 (of_z w64 (negsuc 0 -ℤ x))) ≤ 18446744073709551615
-  below_most =
-      let l : mag z < 2 ^ 63 = F.sfits in
-      subst (λ (y : ℤ). nat_abs y ≤ 18446744073709551615) (sym below_value) (let h : mag z ≤ 18446744073709551615 = omega arith in h)
-
-  pub below_bits : 18446744073709551615 - nat_abs (to_z w64 (of_z w64 (negsuc 0 -ℤ x))) ≡ of_z w64 z
-  below_bits = ap (λ (y : ℤ). 18446744073709551615 - nat_abs y) below_value ∙ below_back z F negative
-
-above_fits : (z : ℤ) → SFits w64 z → lt_z z (pos 0) ≡ false → T (non_neg z) × Fits w64 (nat_abs z)
-above_fits (pos n) F e = (tt, record { fits = let l : n < 2 ^ 63 = F.sfits in let h : n < 2 ^ 64 = omega arith in h })
-above_fits (negsuc n) F e = absurd (false≢true (sym e))
-
-above_back : (z : ℤ) → lt_z z (pos 0) ≡ false → nat_abs z ≡ of_z w64 z
-above_back (pos n) e = refl
-above_back (negsuc n) e = absurd (false≢true (sym e))
-
-module _ (z : ℤ) {x : ℤ} (q : x ≡ z) (F : SFits w64 z) (e : lt_z x (pos 0) ≡ false) where
-  pub above_cast : T (non_neg x) × Fits w64 (nat_abs x)
-  above_cast = subst (λ (y : ℤ). T (non_neg y) × Fits w64 (nat_abs y)) (sym q) (above_fits z F (ap (λ (y : ℤ). lt_z y (pos 0)) (sym q) ∙ e))
-
-  pub above_bits : nat_abs x ≡ of_z w64 z
-  above_bits = ap nat_abs q ∙ above_back z (ap (λ (y : ℤ). lt_z y (pos 0)) (sym q) ∙ e)
 
 -- ---- whether an expiry has come
 
@@ -122,29 +52,6 @@ due_never now q = rw q
 pub due_at : (now at x y : ℤ) {e : Expiry} {b : Bool} → e ≡ At at → b ≡ le_z x y → x ≡ at → y ≡ now → b ≡ is_some_and (λ at. le_z at now) (meant_expiry e)
 unfolding is_some_and
 due_at now at x y q h e f = h ∙ ap₂ le_z e f ∙ rw q
-
-stamp_ok : (z : ℤ) → (option stamp).Ok (some z) → is_time z ≡ true
-unfolding option via enum ◌∣◌ stamp
-stamp_ok z k = k
-
-pub expired_never : (x : Option ℤ) {w : List ℕ} {r : Numbered} → Reads (λ s. bits_in s.now) w (number_in r) → r ≡ numbered.Nothing → Reads (λ s. is_some_and (λ now. is_some_and (λ at. le_z at now) x) s.now) w false
-unfolding is_some_and
-expired_never x R e = record { is = λ s h. go s.now (sym (ap number_in e) ∙ R.is s h) }
-  where
-    go : (n : Option ℤ) → none ≡ bits_in n → false ≡ is_some_and (λ now. is_some_and (λ at. le_z at now) x) n
-    go none e = refl
-    go (some z) e = absurd (none-ne-some (of_z w64 z) e)
-
-pub expired_by : (x : Option ℤ) (bits : ℕ) (t y : ℤ) {w : List ℕ} {r : Numbered} {v : Bool} → Reads (λ s. bits_in s.now) w (number_in r) → r ≡ numbered.Is bits → t ≡ to_z w64 bits → y ≡ t → v ≡ is_some_and (λ at. le_z at y) x
-    → Reads (λ s. is_some_and (λ now. is_some_and (λ at. le_z at now) x) s.now) w v
-unfolding is_some_and
-expired_by x bits t y {v = v} R e q f k = record { is = λ s h. go s.now h.fits.now (sym (ap number_in e) ∙ R.is s h) }
-  where
-    go : (n : Option ℤ) → (option stamp).Ok n → some bits ≡ bits_in n → v ≡ is_some_and (λ now. is_some_and (λ at. le_z at now) x) n
-    go none c e = absurd (none-ne-some bits (sym e))
-    go (some z) c e =
-        let b : t ≡ z = q ∙ ap (to_z w64) (some-injective bits (of_z w64 z) e) ∙ to_z-of_z (time_fits z (stamp_ok z c)) in
-        k ∙ ap (λ (u : ℤ). is_some_and (λ at. le_z at u) x) (f ∙ b)
 
 -- ---- written bytes
 
@@ -166,8 +73,8 @@ unfolding skips value_at
 read_stands {A} {f} F d s p k = go (f.dec (drop p s)) refl k
   where
     go : (x : Got A) → f.dec (drop p s) ≡ x → (stepped s x).ok ≡ true → StandsAt f (value_of d x) s p
-    go none e k = absurd (false≢true k)
-    go (some r) e k = let i = F.reads (drop p s) r e in record { ok = i.1; rest = r.1; is = i.0 }
+    go None e k = absurd (false≢true k)
+    go (Some r) e k = let i = F.reads (drop p s) r e in record { ok = i.1; rest = r.1; is = i.0 }
 
 pub fields_there : (s : List ℕ) (p : ℕ) → fields_f.Ok (fields_at s p) → StandsAt fields_f (fields_at s p) s p
 fields_there s p k = read_stands fields_f_law no_fields s p (fields_stand s p (skips fields_f s (record { at = p; ok = true })) refl k).0
@@ -208,11 +115,11 @@ role_attendee {b} {b₁} {b'} {t} {p} {p₁} {q} s {role} address l k e d a W Y 
     let x : role_f.enc (meant_role s role) ≡ 1 ∷ (length t ∷ t) = ap (λ (y : Role). role_f.enc (meant_role s y)) e ∙ attendee_bytes (text_in s address) ∙ ap (λ (y : List ℕ). 1 ∷ (length y ∷ y)) (sym d) in
     filled 34 a (subst (λ (y : List ℕ). Wrote b b' p q y) (sym x) (wrote_then W Y)) ((widths.role_within).bytes (meant_role s role) k) l
 
-never_bytes : (option stamp).enc none ≡ 0 ∷ []
+never_bytes : (option stamp).enc None ≡ 0 ∷ []
 unfolding option via enum ◌∣◌ nothing
 never_bytes = refl
 
-time_bytes : (z : ℤ) → (option stamp).enc (some z) ≡ 1 ∷ big_endian 8 (of_z w64 z)
+time_bytes : (z : ℤ) → (option stamp).enc (Some z) ≡ 1 ∷ big_endian 8 (of_z w64 z)
 unfolding option stamp via enum ◌∣◌
 time_bytes z = refl
 
@@ -221,9 +128,9 @@ expiry_never {b} {b'} {p} {q} {e} l k d a W =
     let x : (option stamp).enc (meant_expiry e) ≡ 0 ∷ [] = ap (λ (y : Expiry). (option stamp).enc (meant_expiry y)) d ∙ never_bytes in
     filled 9 a (subst (λ (y : List ℕ). Wrote b b' p q y) (sym x) W) ((widths.time_within).bytes (meant_expiry e) k) l
 
-pub expiry_at : {b b₁ b' : List ℕ} {p p₁ q : Pen} {e : Expiry} (z : ℤ) (n : ℕ) → 9 ≤ length b → (option stamp).Ok (meant_expiry e) → e ≡ At z → n ≡ of_z w64 z → p ≡ pen 0 → Wrote b b₁ p p₁ (1 ∷ []) → Wrote b₁ b' p₁ q (big_endian 8 n)
+pub expiry_at : {b b₁ b' : List ℕ} {p p₁ q : Pen} {e : Expiry} (z : ℤ) {n : ℕ} → 9 ≤ length b → (option stamp).Ok (meant_expiry e) → e ≡ At z → n ≡ of_z w64 z → p ≡ pen 0 → Wrote b b₁ p p₁ (1 ∷ []) → Wrote b₁ b' p₁ q (big_endian 8 n)
     → Filled ((option stamp).enc (meant_expiry e)) b' q.at
-expiry_at {b} {b₁} {b'} {p} {p₁} {q} {e} z n l k d f a W Y =
+expiry_at {b} {b₁} {b'} {p} {p₁} {q} {e} z {n} l k d f a W Y =
     let x : (option stamp).enc (meant_expiry e) ≡ 1 ∷ big_endian 8 n = ap (λ (y : Expiry). (option stamp).enc (meant_expiry y)) d ∙ time_bytes z ∙ ap (λ (i : ℕ). 1 ∷ big_endian 8 i) (sym f) in
     filled 9 a (subst (λ (y : List ℕ). Wrote b b' p q y) (sym x) (wrote_then W Y)) ((widths.time_within).bytes (meant_expiry e) k) l
 
@@ -254,9 +161,6 @@ module _ (s : List ℕ) {b b' : List ℕ} {p q : Pen} (o : Operation) (l : 1469 
   pub operation_delete : o ≡ Delete → Wrote b b' p q (2 ∷ []) → Filled (operation_f.enc (meant_operation s o)) b' q.at
   operation_delete e W = operation_filled (2 ∷ []) (ap (λ (y : Operation). operation_f.enc (meant_operation s y)) e ∙ delete_bytes) W
 
-pub bits_told : (z : ℤ) {n : ℕ} → SFits w64 z → n ≡ of_z w64 (to_z w64 (of_z w64 z)) → n ≡ of_z w64 z
-bits_told z F e = e ∙ ap (of_z w64) (to_z-of_z F)
-
 -- ---- roles and bytes compared
 
 pub owner_yes : {role : Role} → role ≡ Owner → (s : List ℕ) → true ≡ not (is_attendee (meant_role s role))
@@ -267,19 +171,8 @@ pub owner_no : {role : Role} (a : TextPart) → role ≡ Attendee a → (s : Lis
 unfolding is_attendee
 owner_no a e s = rw e
 
-abbrev is_equal : Order → Bool
-is_equal Less = false
-is_equal Equal = true
-is_equal Greater = false
-
-equal_is : (x : Ordering) → is_equal (flipped x) ≡ compare_is_eq x
-equal_is Ordering.lt = refl
-equal_is Ordering.eq = refl
-equal_is Ordering.gt = refl
-
-pub same_of : (a b : List ℕ) {o x : Order} → o ≡ order b a → o ≡ x → is_equal x ≡ same_text a b
-unfolding same_text
-same_of a b e q = ap is_equal (sym q ∙ e ∙ name_order b a) ∙ equal_is (by_name a b)
+pub same_of : (a b : List ℕ) → pointwise nat_eq a b ≡ same_text a b
+same_of a b = nat_list_eq_equiv.symm a b ∙ same_bytes b a ∙ equal_same b a
 
 -- ---- the first bytes of a buffer
 

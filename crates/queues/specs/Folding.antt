@@ -1,6 +1,5 @@
 -- What `coalesce` answers, and the cases of `fold_operation` by themselves. Assumes nothing.
-use Rattle.std.specs.Prelude.{ℕ, ◌≡◌, List, ◌++◌}
-use Rattle.std.proofs.Math.Option.{Option, none, some}
+use Rattle.std.specs.Prelude.{ℕ, ◌≡◌, List, ◌++◌, Option, Some, None}
 use Rattle.format.specs.Format.{option}
 use Rattle.model.specs.Event.{NormalizedEvent, ProviderEvent}
 use Rattle.model.specs.Edits.{Operation}
@@ -17,23 +16,23 @@ event_front e = ids_f.enc e.ids ++ ((option short_text).enc e.revision ++ u32.en
 
 -- an update behind an update, and behind a create
 unfoldable pub fold_update : (base ours from to : NormalizedEvent) → Option Coalesced
-fold_update base ours from to = when same fields_f from ours then some (Coalesced.Into (Operation.Update base to)) else none
+fold_update base ours from to = when same fields_f from ours then Some (Coalesced.Into (Operation.Update base to)) else None
 
 unfoldable pub fold_create : ProviderEvent → (from to : NormalizedEvent) → Option Coalesced
-fold_create event from to = when same fields_f from event.fields then some (Coalesced.Into (Operation.Create (with_fields to event))) else none
+fold_create event from to = when same fields_f from event.fields then Some (Coalesced.Into (Operation.Create (with_fields to event))) else None
 
 -- the folded operation's bytes are the first n of the buffer
 pub record FoldedInto (n : ℕ) (b : List ℕ) (x : Option Coalesced) : Type 0 where
   pub operation : Operation
-  pub is : x ≡ some (Coalesced.Into operation)
+  pub is : x ≡ Some (Coalesced.Into operation)
   pub ok : operation_f.Ok operation
   pub bytes : Filled (operation_f.enc operation) b n
 
 -- what an answer stands for
 unfoldable pub Folds : Folded → List ℕ → Option Coalesced → Type 0
-Folds Apart b x = x ≡ none
+Folds Apart b x = x ≡ None
 Folds (Into n) b x = FoldedInto n b x
-Folds Cancelled b x = x ≡ some Coalesced.Cancelled
+Folds Cancelled b x = x ≡ Some Coalesced.Cancelled
 
 pub record FoldedAs (r : Folded) (b : List ℕ) (x : Option Coalesced) : Type 0 where
   pub is : Folds r b x

@@ -1,6 +1,5 @@
 -- What is done to the head of a queue, as the definitions have it with the head in hand. Assumes nothing.
-use Rattle.std.specs.Prelude.{ℕ, ◌≡◌, List, Bool, true, false, take}
-use Rattle.std.proofs.Math.Option.{Option, none, some}
+use Rattle.std.specs.Prelude.{ℕ, ◌≡◌, List, Bool, true, false, take, Option, Some, None}
 use Rattle.model.specs.Event.{Text, ProviderEvent}
 use Rattle.model.specs.Seam.{ResourceId, RequestId}
 use Rattle.model.specs.Seam as seam
@@ -23,9 +22,9 @@ use Rattle.queues.specs.declared.telling.Ending.TheVariants.{Applied, Rejected, 
 
 -- what an ending stands for, with the frame that its outcome's places are in: none for an edit that is applied
 abbrev pub rejection_of : List ℕ → Ending → Option Rejection
-rejection_of frame Applied = none
-rejection_of frame (Rejected refusal) = some (meant_refusal refusal)
-rejection_of frame (By outcome) = some (Rejection.Provider (describe (meant_outcome frame outcome)))
+rejection_of frame Applied = None
+rejection_of frame (Rejected refusal) = Some (meant_refusal refusal)
+rejection_of frame (By outcome) = Some (Rejection.Provider (describe (meant_outcome frame outcome)))
 
 -- ---- how a head begins, as `start_head` has it
 
@@ -55,37 +54,37 @@ begins_by (Operation.Update base ours) role = Start.Read
 begins_by Operation.Delete role = begins_delete (is_attendee role)
 
 unfoldable pub begins_as : Option Pending → Start
-begins_as none = Start.Nothing
-begins_as (some p) = begins_by p.edit.operation p.edit.role
+begins_as None = Start.Nothing
+begins_as (Some p) = begins_by p.edit.operation p.edit.role
 
 -- ---- effects that the state gives
 
 -- the event of an entry that creates one
 unfoldable pub created_by : Operation → Option ProviderEvent
-created_by (Operation.Create event) = some event
-created_by (Operation.Update base ours) = none
-created_by Operation.Delete = none
+created_by (Operation.Create event) = Some event
+created_by (Operation.Update base ours) = None
+created_by Operation.Delete = None
 
 unfoldable pub created : Option Pending → Option ProviderEvent
-created none = none
-created (some p) = created_by p.edit.operation
+created None = None
+created (Some p) = created_by p.edit.operation
 
 -- the notice for the k-th id of the j-th entry
 unfoldable pub id_effect : (j k : ℕ) → ResourceId → Option Rejection → SyncState → Option Effect
 id_effect j k r rejection s =
-    match nth j (queue r s) none: none some: (λ p. match nth_id k (ids_of p) none: none some: (λ id. some (Effect.Notify (ending p rejection id))))
+    match nth j (queue r s) none: None some: (λ p. match nth_id k (ids_of p) none: None some: (λ id. Some (Effect.Notify (ending p rejection id))))
 
 -- the notice that the edit `id` is applied, with the j-th entry's reports
 unfoldable pub applied_effect : ℕ → Text → ResourceId → SyncState → Option Effect
-applied_effect j id r s = match nth j (queue r s) none: none some: (λ p. some (Effect.Notify (Notice.Applied id p.conflicts p.refused)))
+applied_effect j id r s = match nth j (queue r s) none: None some: (λ p. Some (Effect.Notify (Notice.Applied id p.conflicts p.refused)))
 
 -- the request that creates the head's event
 unfoldable pub create_effect : RequestId → ResourceId → SyncState → Option Effect
-create_effect n r s = match created (nth 0 (queue r s)) none: none some: (λ event. some (Effect.Request n (seam.Request.Create r event)))
+create_effect n r s = match created (nth 0 (queue r s)) none: None some: (λ event. Some (Effect.Request n (seam.Request.Create r event)))
 
 -- an effect is sent, if the state gives one
 pub record Sends (effect : SyncState → Option Effect) (w o : List ℕ) (p q : Progress) (o' : List ℕ) : Type 0 where
-  pub run : p.code ≡ 0 → (m : Machine) → Holds m w o p.at → (e : Effect) → effect m.state ≡ some e → Ran (push e m) q w o'
+  pub run : p.code ≡ 0 → (m : Machine) → Holds m w o p.at → (e : Effect) → effect m.state ≡ Some e → Ran (push e m) q w o'
   pub stays : (p.code ≡ 0 → ⊥) → q.code ≡ p.code
 
 -- ---- notices

@@ -5,7 +5,6 @@ ghost use Rattle.model.specs.Event.{NormalizedEvent, ProviderEvent};
 ghost use Rattle.model.specs.Edits as edits;
 ghost use Rattle.model.specs.State.{SyncState};
 ghost use Rattle.model.specs.Formats.{fields_f, event_f, operation_f, role_f, edit_f};
-ghost use Rattle.model.specs.Maps.{same_text};
 ghost use Rattle.model.specs.Sync.{is_attendee, fold_operation, coalesce, coalesced_with, foldable};
 ghost use Rattle.frame.specs.Meaning.{fields_at, meant_role, meant_operation, meant_edit};
 ghost use Rattle.state.specs.Contract.{Keeps, HasState};
@@ -18,8 +17,6 @@ use crate::places::{fields_at, fields_end, fields_place, part, role_at, tag_at};
 use crate::writing::{put_role, start};
 use frame::{Edit, Operation, Role};
 use names::Name;
-use spans::Order;
-use tables::Place;
 
 // What becomes of an edit that follows another: it stays apart, its operation is folded into the other's, or the two cancel each other.
 #[derive(Clone, Copy)]
@@ -27,23 +24,6 @@ pub enum Folded {
     Apart,
     Into(usize),
     Cancelled,
-}
-
-fn same_bytes(a: &[u8], b: &[u8]) -> bool
-    ensures { result ≡ same_text a.now b.now }
-{
-    let o = spans::compare(b, a);
-    match o {
-        Order::Equal => {
-            return true;
-        }
-        Order::Less => {
-            return false;
-        }
-        Order::Greater => {
-            return false;
-        }
-    }
 }
 
 // An update behind one whose fields stand at `at`.
@@ -61,7 +41,7 @@ fn fold_into_update(
     let base = fields_at(work, at);
     let ours = fields_at(work, fields_end(work, at));
     let expected = fields_at(frame, from);
-    if same_bytes(expected, ours) {
+    if expected == ours {
         let new = fields_at(frame, to);
         let end = start().byte(buf, 1).part(buf, base).part(buf, new);
         let n = end.at;
@@ -85,7 +65,7 @@ fn fold_into_create(
     let place = fields_place(work, at);
     let held = fields_at(work, place);
     let expected = fields_at(frame, from);
-    if same_bytes(expected, held) {
+    if expected == held {
         let front = part(work, at, place);
         let new = fields_at(frame, to);
         let rest = tag_at(work, fields_end(work, place));
@@ -188,7 +168,7 @@ fn coalesce(work: &[u8], at: usize, frame: &[u8], edit: Edit, buf: &mut [u8]) ->
     let operation = edit.operation;
     let mut role = [0u8; 34];
     let n = put_role(&mut role, frame, by);
-    if same_bytes(role_at(work, at + 1535), &role[..n]) {
+    if role_at(work, at + 1535) == &role[..n] {
         let deletes = is_owner(by);
         return fold_operation(work, at + 66, frame, operation, deletes, buf);
     }
@@ -205,13 +185,8 @@ pub fn coalesced_with(work: &[u8], name: Name, frame: &[u8], edit: Edit, buf: &m
     if n < 2 {
         return Folded::Apart;
     }
-    let place = waiting::find_entry(work, name, n - 1);
-    match place {
-        Place::Found(at) => {
-            return coalesce(work, at, frame, edit, buf);
-        }
-        Place::Missing(_at) => {
-            return Folded::Apart;
-        }
+    match waiting::find_entry(work, name, n - 1) {
+        Some(at) => coalesce(work, at, frame, edit, buf),
+        None => Folded::Apart,
     }
 }

@@ -169,12 +169,7 @@ fn target(work: &[u8], frame: &[u8], edit: Edit) -> Name
     if is_create(what) {
         return name;
     }
-    let to = state::alias(work, name);
-    if to.found {
-        let other = to.name;
-        return other;
-    }
-    name
+    state::alias(work, name).unwrap_or(name)
 }
 
 // SyncState::enqueue

@@ -1,8 +1,8 @@
 // The head of a queue: its start and its end.
-ghost use Rattle.std.proofs.Math.Option.{some};
+ghost use Rattle.std.specs.Prelude.{Some};
 ghost use Rattle.model.specs.Event.{ProviderEvent};
 ghost use Rattle.model.specs.Seam.{Request};
-ghost use Rattle.model.specs.State.{Purpose};
+ghost use Rattle.model.specs.State as model;
 ghost use Rattle.model.specs.Machine.{request};
 ghost use Rattle.model.specs.Sync.{start_edit, finish};
 ghost use Rattle.state.specs.Contract.{HasState, Reads};
@@ -17,8 +17,8 @@ use crate::telling::{Ending, notify};
 use effects::Refusal;
 use machine::Progress;
 use names::Name;
-use state::Kind;
-use tables::Place;
+use state::Purpose;
+use waiting::OperationCase;
 
 // What the start of a head is.
 #[derive(Clone, Copy)]
@@ -34,23 +34,24 @@ fn begins(work: &[u8], name: Name) -> Beginning
     requires named { Named name.bytes }
     ensures { Reads (λ s. begins_as (nth 0 (queue (name_of name.bytes) s))) work.now (meant_beginning result) }
 {
-    let case = waiting::operation_case(work, name, 0);
-    if case == 3 {
-        return Beginning::Nothing;
-    }
-    if case == 0 {
-        if looks_up(work, name) {
-            return Beginning::Read;
+    match waiting::operation_case(work, name, 0) {
+        None => Beginning::Nothing,
+        Some(OperationCase::Create) => {
+            if looks_up(work, name) {
+                Beginning::Read
+            } else {
+                Beginning::Create
+            }
         }
-        return Beginning::Create;
-    }
-    if case == 2 {
-        if waiting::is_attendee(work, name, 0) {
-            return Beginning::NotOwner;
+        Some(OperationCase::Update) => Beginning::Read,
+        Some(OperationCase::Delete) => {
+            if waiting::is_attendee(work, name, 0) {
+                Beginning::NotOwner
+            } else {
+                Beginning::Read
+            }
         }
-        return Beginning::Read;
     }
-    Beginning::Read
 }
 
 // The request that creates the head's event, behind its number.
@@ -59,18 +60,14 @@ fn send_create(work: &[u8], out: &mut [u8], p: Progress, id: u64, name: Name) ->
     requires named { Named name.bytes }
     ensures { Sends (create_effect id (name_of name.bytes)) work.now out.old p result out.new }
 {
-    let place = waiting::find_entry(work, name, 0);
-    match place {
-        Place::Found(at) => {
-            let key = name.bytes;
+    match waiting::find_entry(work, name, 0) {
+        Some(at) => {
             let event = event_at(work, at + 67);
-            let resource = machine::text_of(&key);
+            let resource = machine::text_of(&name.bytes);
             let pen = effects::create(machine::pen_of(p), out, id, resource, event);
-            return machine::sent(p, pen);
+            machine::sent(p, pen)
         }
-        Place::Missing(_at) => {
-            return p;
-        }
+        None => p,
     }
 }
 
@@ -78,10 +75,10 @@ fn send_create(work: &[u8], out: &mut [u8], p: Progress, id: u64, name: Name) ->
 pub fn request_create(work: &mut [u8], out: &mut [u8], p: Progress, name: Name) -> Progress
     requires has_state { HasState work.old }
     requires named { Named name.bytes }
-    ensures { (event : ProviderEvent) → Reads (λ s. created (nth 0 (queue (name_of name.bytes) s))) work.old (some event) → Does (request (Purpose.EditWrite (name_of name.bytes)) (Request.Create (name_of name.bytes) event)) work.old out.old p result work.new out.new }
+    ensures { (event : ProviderEvent) → Reads (λ s. created (nth 0 (queue (name_of name.bytes) s))) work.old (Some event) → Does (request (model.Purpose.EditWrite (name_of name.bytes)) (Request.Create (name_of name.bytes) event)) work.old out.old p result work.new out.new }
 {
     let id = state::next_request(work);
-    let q = machine::reserve(work, p, Kind::EditWrite, name);
+    let q = machine::reserve(work, p, Purpose::EditWrite(name));
     send_create(work, out, q, id, name)
 }
 

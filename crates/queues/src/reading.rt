@@ -1,6 +1,6 @@
 // Reads for edits.
 ghost use Rattle.model.specs.Seam.{Request};
-ghost use Rattle.model.specs.State.{Purpose};
+ghost use Rattle.model.specs.State as model;
 ghost use Rattle.model.specs.Maps.{is_some_and};
 ghost use Rattle.model.specs.Machine.{request};
 ghost use Rattle.model.specs.Sync.{read_for_edit, creates_under_key};
@@ -12,8 +12,7 @@ ghost use Rattle.machine.specs.Contract.{Does};
 use crate::places::is_keyed;
 use machine::Progress;
 use names::Name;
-use state::Kind;
-use tables::Place;
+use state::Purpose;
 
 // SyncState::looks_up
 pub fn looks_up(work: &[u8], name: Name) -> bool
@@ -21,24 +20,19 @@ pub fn looks_up(work: &[u8], name: Name) -> bool
     requires named { Named name.bytes }
     ensures { Reads (λ s. is_some_and (λ p. creates_under_key p.edit.operation) (nth 0 (queue (name_of name.bytes) s))) work.now result }
 {
-    let place = waiting::find_entry(work, name, 0);
-    match place {
-        Place::Found(at) => {
-            return is_keyed(work, at + 66);
-        }
-        Place::Missing(_at) => {
-            return false;
-        }
+    match waiting::find_entry(work, name, 0) {
+        Some(at) => is_keyed(work, at + 66),
+        None => false,
     }
 }
 
 fn request_lookup(work: &mut [u8], out: &mut [u8], p: Progress, name: Name) -> Progress
     requires has_state { HasState work.old }
     requires named { Named name.bytes }
-    ensures { Does (request (Purpose.EditRead (name_of name.bytes)) (Request.Lookup (name_of name.bytes))) work.old out.old p result work.new out.new }
+    ensures { Does (request (model.Purpose.EditRead (name_of name.bytes)) (Request.Lookup (name_of name.bytes))) work.old out.old p result work.new out.new }
 {
     let id = state::next_request(work);
-    let q = machine::reserve(work, p, Kind::EditRead, name);
+    let q = machine::reserve(work, p, Purpose::EditRead(name));
     let key = name.bytes;
     let pen = effects::lookup(machine::pen_of(q), out, id, machine::text_of(&key));
     machine::sent(q, pen)
@@ -53,5 +47,5 @@ pub fn read_for_edit(work: &mut [u8], out: &mut [u8], p: Progress, name: Name) -
     if looks_up(work, name) {
         return request_lookup(work, out, p, name);
     }
-    machine::request_read(work, out, p, Kind::EditRead, name)
+    machine::request_read(work, out, p, Purpose::EditRead(name), name)
 }

@@ -15,7 +15,6 @@ use effects::Refusal;
 use frame::{Outcome, TextPart};
 use machine::Progress;
 use names::Name;
-use tables::Place;
 
 // How an edit ends: applied, or rejected with a reason of the engine's or with the provider's.
 #[derive(Clone, Copy)]
@@ -37,19 +36,15 @@ fn tell_applied(
     requires named { Named name.bytes }
     ensures { Sends (applied_effect j (name_of id.bytes) (name_of name.bytes)) work.now out.old p result out.new }
 {
-    let place = waiting::find_entry(work, name, j);
-    match place {
-        Place::Found(at) => {
-            let key = id.bytes;
+    match waiting::find_entry(work, name, j) {
+        Some(at) => {
             let conflicts = conflicts_at(work, at + 1578);
             let refused = refused_at(work, at + 4650);
-            let edit = machine::text_of(&key);
+            let edit = machine::text_of(&id.bytes);
             let pen = effects::applied(machine::pen_of(p), out, edit, conflicts, refused);
-            return machine::sent(p, pen);
+            machine::sent(p, pen)
         }
-        Place::Missing(_at) => {
-            return p;
-        }
+        None => p,
     }
 }
 
@@ -126,10 +121,8 @@ pub fn notify(
 {
     let n = waiting::ids_count(work, name, j);
     let mut q = p;
-    let mut k = 0;
-    while k < n {
+    for k in 0..n {
         q = tell_id(work, out, q, name, j, k, ending, frame);
-        k += 1;
     }
     q
 }

@@ -1,5 +1,6 @@
 -- The records that a full pass has seen: one record tested, and all. Assumes nothing.
 use Prim.Native.Nat.{ℕ, ◌+◌, ◌-◌, ◌<◌}
+use native.Mathlib.Omega.{arith}
 use mathlib.Core.Path.{◌≡◌, refl, sym, ap, ap₂, ◌∙◌, subst}
 use mathlib.Core.List.{List, [], ◌∷◌, ◌++◌}
 use mathlib.Core.Bool.{Bool, true, false}
@@ -65,11 +66,17 @@ Retaining = retaining.Retaining (λ s. s.records) with_records seen_in
 count : (w : List ℕ) → Reads (λ s. length s.records) w (get_or w 0 0)
 count w = record { is = λ s h. columns.counted record_column s w h }
 
-pub retain_start : (w : List ℕ) → Retaining w w 0 (get_or w 0 0)
-retain_start w = retaining.retain_start w (get_or w 0 0) (λ s h. h) (count w)
+-- after k turns of n
+pub retain_start : (w : List ℕ) (n : ℕ) → Reads (λ s. length s.records) w n → Retaining w w 0 (n - 0)
+retain_start w n R =
+    let z : n ≡ n - 0 = omega arith in
+    subst (λ (x : ℕ). Retaining w w 0 x) z (retaining.retain_start w n (λ s h. h) R)
 
-pub retain_below : (w₀ w : List ℕ) (i left : ℕ) → HasState w₀ → Retaining w₀ w i left → 0 < left → i < get_or w 0 0
-retain_below w₀ w i left K R l = retaining.retain_below w₀ w i left (get_or w 0 0) (λ s m. refl) K R l (count w)
+pub retain_below : (w₀ w : List ℕ) (i n k : ℕ) → HasState w₀ → Retaining w₀ w i (n - k) → k < n → i < get_or w 0 0
+retain_below w₀ w i n k K R l = retaining.retain_below w₀ w i (n - k) (get_or w 0 0) (λ s m. refl) K R (omega arith) (count w)
 
-pub retain_turn : (w₀ w w' : List ℕ) (i left r : ℕ) → Retaining w₀ w i left → 0 < left → Tested i w r w' → Retaining w₀ w' r (left - 1)
-retain_turn w₀ w w' i left r R l T = retaining.retain_turn w₀ w w' i left r R l (λ s kept rest e h a. T.is (with_records (kept ++ (e ∷ rest)) s) h kept rest e refl a)
+pub retain_turn : (w₀ w w' : List ℕ) (i n k r : ℕ) → Retaining w₀ w i (n - k) → k < n → Tested i w r w' → Retaining w₀ w' r (n - (k + 1))
+retain_turn w₀ w w' i n k r R l T =
+    let z : n - k - 1 ≡ n - (k + 1) = omega arith in
+    subst (λ (x : ℕ). Retaining w₀ w' r x) z
+    (retaining.retain_turn w₀ w w' i (n - k) r R (omega arith) (λ s kept rest e h a. T.is (with_records (kept ++ (e ∷ rest)) s) h kept rest e refl a))

@@ -11,7 +11,7 @@ use lib.ListN.{length, take, drop, length-append, length-replicate, length-drop,
 use lib.Seq.{take_at, drop_at, take_all}
 use Rattle.format.specs.Format.{Format, Lawful, All, text, number, big_endian}
 use Rattle.format.proofs.SizeLaws.{Within, length_digits}
-use Rattle.format.proofs.FormatLaws.{true_T, T_true}
+use Rattle.format.proofs.FormatLaws.{true_T, T_true, and_inv}
 use Rattle.spans.specs.Bytes.{zeros, both, all_zero}
 use Rattle.spans.specs.Compare.{order}
 use Rattle.tables.specs.Table.{Table, Sized, enc_table, slots_of, text as key-text, key_ok, keys_ok, is_less, rising, rising_from, WellFormed}
@@ -34,10 +34,10 @@ use Rattle.state.proofs.Padded.{length_field, length_name, text_name, text_name_
 use Rattle.state.proofs.Orders.{flipped, name_order, number_order}
 use Rattle.state.proofs.Rows.{sized_rows}
 use Rattle.state.proofs.Regions.{rows_long, flight_long}
-use Rattle.regions.specs.Tests.{filled, is_field, is_named, is_flight, every_slot}
+use Rattle.std.specs.List.{list_all}
+use Rattle.regions.specs.Tests.{filled, is_named, is_flight}
 use Rattle.regions.specs.Inside.{MapIn, NamesIn}
 use Rattle.regions.proofs.Fields.{field_yes, field_no}
-use Rattle.regions.specs.declared.field.Value.{Value}
 
 -- an entry that the bytes of a slot are
 pub record Entry {E : Type 0} (slot : E → List ℕ) (P : E → Type 0) (s : List ℕ) : Type 0 where
@@ -68,17 +68,17 @@ pub record Held-in {E K : Type 0} (slot : E → List ℕ) (P : E → Type 0) (ke
   pub bytes : r ≡ region limit stride (map slot rows)
 
 module _ {E K : Type 0} {slot : E → List ℕ} {P : E → Type 0} {key : E → K} {ord : K → K → Ordering} {test : List ℕ → Bool} {stride width : ℕ} (R : Rows slot P key ord test stride width) where
-  decode : (t : Table) → Sized stride t → every_slot test t ≡ true → Entries slot P t
-  unfolding every_slot map
+  decode : (t : Table) → Sized stride t → list_all test t ≡ true → Entries slot P t
+  unfolding map
   decode [] z e = record { rows = []; ok = tt; is = refl }
   decode (s ∷ t) z e =
-      let b = tables.both_true (test s) (every_slot test t) e in
+      let b = and_inv (test s) (list_all test t) e in
       let x = R.reads s z.0 b.0 in
       let l = decode t z.1 b.1 in
       record { rows = x.entry ∷ l.rows; ok = (x.ok, l.ok); is = ap₂ (λ (p : List ℕ) (q : Table). p ∷ q) x.is l.is }
 
-  encode : (m : List E) → All P m → every_slot test (map slot m) ≡ true
-  unfolding every_slot map
+  encode : (m : List E) → All P m → list_all test (map slot m) ≡ true
+  unfolding map
   encode [] a = refl
   encode (e ∷ m) a = rw (R.writes e a.0) (encode m a.1)
 
@@ -94,10 +94,10 @@ module _ {E K : Type 0} {slot : E → List ℕ} {P : E → Type 0} {key : E → 
   rising_are (e ∷ (x ∷ m)) a =
       ap₂ both (R.ordered e x a.0 a.1.0) (rising_are (x ∷ m) a.1) ∙ tables.both_and (by (ord (key e) (key x)) true false false) (rise ord (map key (x ∷ m)))
 
-  pub rows_yes : (limit : ℕ) (r : List ℕ) → length r ≡ 1 + limit * stride → WellFormed stride width limit r → every_slot test (slots_of stride r) ≡ true → Held-in slot P key ord limit stride r
+  pub rows_yes : (limit : ℕ) (r : List ℕ) → length r ≡ 1 + limit * stride → WellFormed stride width limit r → list_all test (slots_of stride r) ≡ true → Held-in slot P key ord limit stride r
   rows_yes limit r l W e =
       let s : slots_of stride r ≡ W.t = ap (slots_of stride) W.is ∙ tables.slots_enc stride (length r) W.t W.sized in
-      let d = decode W.t W.sized (ap (every_slot test) (sym s) ∙ e) in
+      let d = decode W.t W.sized (ap (list_all test) (sym s) ∙ e) in
       let n : length W.t ≡ length d.rows = ap length d.is ∙ length-map slot d.rows in
       let f = W.few in
       record {
@@ -124,8 +124,8 @@ module _ {E K : Type 0} {slot : E → List ℕ} {P : E → Type 0} {key : E → 
           sorted = rising_are H.rows H.each ∙ T_true (rise ord (map key H.rows)) H.rises;
         }
 
-    pub rows_slots : every_slot test (slots_of stride r) ≡ true
-    rows_slots = ap (every_slot test) (ap (slots_of stride) H.bytes ∙ tables.slots_enc stride (1 + limit * stride) (map slot H.rows) sized_are) ∙ encode H.rows H.each
+    pub rows_slots : list_all test (slots_of stride r) ≡ true
+    rows_slots = ap (list_all test) (ap (slots_of stride) H.bytes ∙ tables.slots_enc stride (1 + limit * stride) (map slot H.rows) sized_are) ∙ encode H.rows H.each
 
 -- ---- slots that start with a name
 
@@ -164,7 +164,7 @@ cut_first m a b l = take_at a b m l
 cut_second : (m n : ℕ) (a b : List ℕ) → length a ≡ m → length b ≡ n → part m n (a ++ b) ≡ b
 cut_second m n a b l k = ap (take n) (drop_at a b m l) ∙ take_all n b (omega arith)
 
-module _ {A : Type 0} {f : Format A} {n : ℕ} (F : Lawful f) (W : Within n f) (v : Value) (is : (s : List ℕ) → is_field v s ≡ filled f s) where
+module _ {A : Type 0} {f : Format A} {n : ℕ} (F : Lawful f) (W : Within n f) where
   abbrev named_slot : Text × A → List ℕ
   named_slot e = name_slot e.0 ++ field n f e.1
 
@@ -174,24 +174,24 @@ module _ {A : Type 0} {f : Format A} {n : ℕ} (F : Lawful f) (W : Within n f) (
   named_long : (e : Text × A) → NamedOk e → length (named_slot e) ≡ 33 + n
   named_long e ok = length-append (name_slot e.0) (field n f e.1) ∙ ap₂ ◌+◌ (length_name e.0 ok.0) (length_field W e.1 ok.1)
 
-  named_reads : (s : List ℕ) → length s ≡ 33 + n → is_named n v s ≡ true → Entry named_slot NamedOk s
+  named_reads : (s : List ℕ) → length s ≡ 33 + n → is_named n f s ≡ true → Entry named_slot NamedOk s
   unfolding is_named
   named_reads s l e =
-      let b = tables.both_true (filled resource_id (part 0 33 s)) (is_field v (part 33 n s)) e in
+      let b = tables.both_true (filled resource_id (part 0 33 s)) (filled f (part 33 n s)) e in
       let k = field_yes resource_id_law 33 (part 0 33 s) (tables.part_length s 0 33 (omega arith)) b.0 in
-      let x = field_yes F n (part 33 n s) (tables.part_length s 33 n (omega arith)) (sym (is (part 33 n s)) ∙ b.1) in
+      let x = field_yes F n (part 33 n s) (tables.part_length s 33 n (omega arith)) b.1 in
       record { entry = (k.value, x.value); ok = (k.ok, x.ok); is = cut 33 n s l ∙ ap₂ (λ (p q : List ℕ). p ++ q) k.bytes x.bytes }
 
-  named_writes : (e : Text × A) → NamedOk e → is_named n v (named_slot e) ≡ true
+  named_writes : (e : Text × A) → NamedOk e → is_named n f (named_slot e) ≡ true
   unfolding is_named
   named_writes e ok =
       let p : part 0 33 (named_slot e) ≡ name_slot e.0 = cut_first 33 (name_slot e.0) (field n f e.1) (length_name e.0 ok.0) in
       let q : part 33 n (named_slot e) ≡ field n f e.1 = cut_second 33 n (name_slot e.0) (field n f e.1) (length_name e.0 ok.0) (length_field W e.1 ok.1) in
       ap₂ both
       (field_no resource_id_law 33 (part 0 33 (named_slot e)) (record { value = e.0; ok = ok.0; bytes = p }))
-      (is (part 33 n (named_slot e)) ∙ field_no F n (part 33 n (named_slot e)) (record { value = e.1; ok = ok.1; bytes = q }))
+      (field_no F n (part 33 n (named_slot e)) (record { value = e.1; ok = ok.1; bytes = q }))
 
-  pub named_rows : Rows named_slot NamedOk (λ e. e.0) by_name (is_named n v) (33 + n) 33
+  pub named_rows : Rows named_slot NamedOk (λ e. e.0) by_name (is_named n f) (33 + n) 33
   named_rows = record {
     long = named_long;
     reads = named_reads;

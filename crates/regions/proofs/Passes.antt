@@ -1,9 +1,9 @@
 -- The regions of a pass: zeros where none is open, and a pass that fits behind the byte 1. Assumes nothing.
+use Rattle.std.specs.Prelude.{Option, Some, None}
 use Prim.Native.Nat.{ℕ, ◌+◌, ◌-◌, ◌≤◌}
 use native.Mathlib.Omega.{arith}
 use mathlib.Core.Path.{◌≡◌, refl, sym, ap, ◌∙◌}
 use mathlib.Core.List.{List, [], ◌∷◌}
-use mathlib.Core.Option.{Option, none, some}
 use mathlib.Core.Bool.{Bool, true, false}
 use lib.ListN.{length, take, get_or, length-replicate, replicate-append-replicate}
 use lib.Seq.{drop-cons, take_at, drop_at}
@@ -68,10 +68,10 @@ module _ (b : List ℕ) (l : length b ≡ state_length) where
   open_byte : part 9185 1 b ≡ get_or b 9185 0 ∷ []
   open_byte = ap (take 1) (drop-cons b 9185 0 (omega arith))
 
-  shut_byte : (p : Option Pass) → part 9185 1 b ≡ field 1 bool (is_some p) → (get_or b 9185 0 ≡ 1 → ⊥) → (get_or b 9185 0 ≡ 0) × (p ≡ none)
+  shut_byte : (p : Option Pass) → part 9185 1 b ≡ field 1 bool (is_some p) → (get_or b 9185 0 ≡ 1 → ⊥) → (get_or b 9185 0 ≡ 0) × (p ≡ None)
   unfolding is_some
-  shut_byte none e h = (same_byte (get_or b 9185 0) 0 (sym open_byte ∙ e ∙ no_flag), refl)
-  shut_byte (some p) e h = absurd (h (same_byte (get_or b 9185 0) 1 (sym open_byte ∙ e ∙ a_flag)))
+  shut_byte None e h = (same_byte (get_or b 9185 0) 0 (sym open_byte ∙ e ∙ no_flag), refl)
+  shut_byte (Some p) e h = absurd (h (same_byte (get_or b 9185 0) 1 (sym open_byte ∙ e ∙ a_flag)))
 
   -- the byte is 0 or 1
   pub no_other : PassIn b → (get_or b 9185 0 ≡ 0 → ⊥) → (get_or b 9185 0 ≡ 1 → ⊥) → ⊥
@@ -89,7 +89,7 @@ module _ (b : List ℕ) (l : length b ≡ state_length) where
     pub shut_yes : PassIn b
     unfolding pass_of no_pass is_some
     shut_yes = record {
-      pass = none;
+      pass = None;
       fits = no_pass_fits;
       is_open = zeros_at 0 1 (omega arith) ∙ sym no_flag;
       full = zeros_at 1 1 (omega arith) ∙ sym no_flag;
@@ -116,7 +116,7 @@ module _ (b : List ℕ) (l : length b ≡ state_length) where
   pub shut_no : PassIn b → get_or b 9185 0 ≡ 0 → all_zero (part 9185 10817 b) ≡ true
   unfolding pass_of no_pass is_some
   shut_no P h =
-      let n : P.pass ≡ none = (shut_byte P.pass P.is_open (λ k. let h2 = h in omega arith)).1 in
+      let n : P.pass ≡ None = (shut_byte P.pass P.is_open (λ k. let h2 = h in omega arith)).1 in
       let c : List ℕ = part 9185 10817 b in
       let e : cut_at 0 pass_sizes c ≡ blank =
       tables.join (inner 0 1 (omega arith) (P.is_open ∙ ap (λ p. field 1 bool (is_some p)) n ∙ no_flag)) (
@@ -134,7 +134,7 @@ module _ (b : List ℕ) (l : length b ≡ state_length) where
   pub open_yes : get_or b 9185 0 ≡ 1 → OpenIn b → PassIn b
   unfolding pass_of is_some
   open_yes h O = record {
-    pass = some (record { full = O.full.value; from = O.from.value; staged = O.staged.entries; seen = O.seen.names; observed = O.observed.names; done = O.done.value });
+    pass = Some (record { full = O.full.value; from = O.from.value; staged = O.staged.entries; seen = O.seen.names; observed = O.observed.names; done = O.done.value });
     fits = record { from = O.from.ok; staged = O.staged.held; seen = O.seen.held; observed = O.observed.held; done = O.done.ok };
     is_open = open_byte ∙ ap (λ (n : ℕ). n ∷ []) h ∙ sym a_flag;
     full = O.full.bytes;

@@ -1,7 +1,7 @@
 -- Each region by its place: it passes its test exactly where it holds a value that fits. Assumes nothing.
 use Prim.Native.Nat.{ℕ, ◌+◌, ◌*◌, ◌≤◌, Ordering}
 use native.Mathlib.Omega.{arith}
-use mathlib.Core.Path.{◌≡◌, refl, sym, ◌∙◌}
+use mathlib.Core.Path.{◌≡◌, sym, ◌∙◌}
 use mathlib.Core.List.{List}
 use mathlib.Core.Bool.{Bool, true}
 use lib.ListN.{length}
@@ -20,64 +20,63 @@ use Rattle.model.proofs.SavedFormLaws.{staged_f_law}
 use Rattle.state.specs.Layout.{record_slot, staged_slot, learned_slot, alias_slot}
 use Rattle.state.specs.Contract.{state_length}
 use Rattle.state.proofs.Widths.{event_within, staged_within, number_8, name_within}
-use Rattle.regions.specs.Tests.{filled, is_slot, stride, key_width}
+use Rattle.reader.specs.Left.{after}
+use Rattle.regions.specs.Tests.{zeros_left, filled, is_named, is_flight}
 use Rattle.regions.specs.Inside.{FieldIn, TableIn, RecordsIn, StagedIn, SeenIn, ObservedIn, FlightsIn, LearnedIn, AliasesIn}
 use Rattle.regions.proofs.Fields.{field_yes, field_no}
 use Rattle.regions.proofs.Entries.{Rows, Held-in, rows_yes, rows_table, rows_slots, named_rows, name_rows, flight_rows, to_map, of_map, to_names, of_names}
-use Rattle.regions.specs.declared.field.Value.TheVariants as value
-use Rattle.regions.specs.declared.table.Slot.{Slot}
-use Rattle.regions.specs.declared.table.Slot.TheVariants as slot
 
--- a field
-pub field_both : {A : Type 0} {f : Format A} → Lawful f → (at len : ℕ) (b : List ℕ) {r : Bool} → at + len ≤ length b → r ≡ filled f (part at len b)
+-- a field, by what is left behind its value
+pub field_both : {A : Type 0} {f : Format A} → Lawful f → (at len : ℕ) (b : List ℕ) {r : Bool} → at + len ≤ length b → r ≡ zeros_left (after f (part at len b))
     → (r ≡ true → FieldIn len f (part at len b)) × (FieldIn len f (part at len b) → r ≡ true)
-field_both F at len b h e = (λ q. field_yes F len (part at len b) (tables.part_length b at len h) (sym e ∙ q), λ I. e ∙ field_no F len (part at len b) I)
+unfolding filled
+field_both F at len b h e = (λ y. field_yes F len (part at len b) (tables.part_length b at len h) (sym e ∙ y), λ I. e ∙ field_no F len (part at len b) I)
 
 -- a table
-module _ (kind : Slot) {E K : Type 0} {slot : E → List ℕ} {P : E → Type 0} {key : E → K} {ord : K → K → Ordering} (R : Rows slot P key ord (is_slot kind) (stride kind) (key_width kind)) where
-  table_yes : (at len limit : ℕ) (b : List ℕ) → at + len ≤ length b → len ≡ 1 + limit * stride kind → TableIn kind limit (part at len b) → Held-in slot P key ord limit (stride kind) (part at len b)
+module _ {E K : Type 0} {slot : E → List ℕ} {P : E → Type 0} {key : E → K} {ord : K → K → Ordering} {test : List ℕ → Bool} {stride width : ℕ} (R : Rows slot P key ord test stride width) where
+  table_yes : (at len limit : ℕ) (b : List ℕ) → at + len ≤ length b → len ≡ 1 + limit * stride → TableIn stride width test limit (part at len b) → Held-in slot P key ord limit stride (part at len b)
   table_yes at len limit b h e I = rows_yes R limit (part at len b) (tables.part_length b at len h ∙ e) I.table I.slots
 
-  table_no : (limit : ℕ) (r : List ℕ) → Held-in slot P key ord limit (stride kind) r → TableIn kind limit r
+  table_no : (limit : ℕ) (r : List ℕ) → Held-in slot P key ord limit stride r → TableIn stride width test limit r
   table_no limit r H = record { table = rows_table R limit r H; slots = rows_slots R limit r H }
 
-record_rows : Rows record_slot (λ (e : ResourceId × ProviderEvent). resource_id.Ok e.0 × event_f.Ok e.1) (λ e. e.0) by_name (is_slot slot.Record) 915 33
-record_rows = named_rows event_f_law event_within value.Event (λ s. refl)
+record_rows : Rows record_slot (λ (e : ResourceId × ProviderEvent). resource_id.Ok e.0 × event_f.Ok e.1) (λ e. e.0) by_name (is_named 882 event_f) 915 33
+record_rows = named_rows event_f_law event_within
 
-staged_rows : Rows staged_slot (λ (e : ResourceId × Staged). resource_id.Ok e.0 × staged_f.Ok e.1) (λ e. e.0) by_name (is_slot slot.Staged) 916 33
-staged_rows = named_rows staged_f_law staged_within value.Staged (λ s. refl)
+staged_rows : Rows staged_slot (λ (e : ResourceId × Staged). resource_id.Ok e.0 × staged_f.Ok e.1) (λ e. e.0) by_name (is_named 883 staged_f) 916 33
+staged_rows = named_rows staged_f_law staged_within
 
-learned_rows : Rows learned_slot (λ (e : ResourceId × ℕ). resource_id.Ok e.0 × u64.Ok e.1) (λ e. e.0) by_name (is_slot slot.Learned) 41 33
-learned_rows = named_rows u64_law number_8 value.Number (λ s. refl)
+learned_rows : Rows learned_slot (λ (e : ResourceId × ℕ). resource_id.Ok e.0 × u64.Ok e.1) (λ e. e.0) by_name (is_named 8 u64) 41 33
+learned_rows = named_rows u64_law number_8
 
-alias_rows : Rows alias_slot (λ (e : ResourceId × ResourceId). resource_id.Ok e.0 × resource_id.Ok e.1) (λ e. e.0) by_name (is_slot slot.Alias) 66 33
-alias_rows = named_rows resource_id_law name_within value.Name (λ s. refl)
+alias_rows : Rows alias_slot (λ (e : ResourceId × ResourceId). resource_id.Ok e.0 × resource_id.Ok e.1) (λ e. e.0) by_name (is_named 33 resource_id) 66 33
+alias_rows = named_rows resource_id_law name_within
 
 module _ (b : List ℕ) (l : length b ≡ state_length) {r : Bool} where
-  pub records_both : (r ≡ true → TableIn slot.Record 10 (part 0 9151 b)) × (TableIn slot.Record 10 (part 0 9151 b) → r ≡ true) → (r ≡ true → RecordsIn b) × (RecordsIn b → r ≡ true)
+  pub records_both : (r ≡ true → TableIn 915 33 (is_named 882 event_f) 10 (part 0 9151 b)) × (TableIn 915 33 (is_named 882 event_f) 10 (part 0 9151 b) → r ≡ true) → (r ≡ true → RecordsIn b) × (RecordsIn b → r ≡ true)
   unfolding document01
-  records_both q = (λ e. to_map (table_yes slot.Record record_rows 0 9151 10 b (omega arith) (omega arith) (q.0 e)), λ M. q.1 (table_no slot.Record record_rows 10 (part 0 9151 b) (of_map M)))
+  records_both q = (λ e. to_map (table_yes record_rows 0 9151 10 b (omega arith) (omega arith) (q.0 e)), λ M. q.1 (table_no record_rows 10 (part 0 9151 b) (of_map M)))
 
-  pub staged_both : (r ≡ true → TableIn slot.Staged 10 (part 9221 9161 b)) × (TableIn slot.Staged 10 (part 9221 9161 b) → r ≡ true) → (r ≡ true → StagedIn b) × (StagedIn b → r ≡ true)
+  pub staged_both : (r ≡ true → TableIn 916 33 (is_named 883 staged_f) 10 (part 9221 9161 b)) × (TableIn 916 33 (is_named 883 staged_f) 10 (part 9221 9161 b) → r ≡ true) → (r ≡ true → StagedIn b) × (StagedIn b → r ≡ true)
   unfolding document01
-  staged_both q = (λ e. to_map (table_yes slot.Staged staged_rows 9221 9161 10 b (omega arith) (omega arith) (q.0 e)), λ M. q.1 (table_no slot.Staged staged_rows 10 (part 9221 9161 b) (of_map M)))
+  staged_both q = (λ e. to_map (table_yes staged_rows 9221 9161 10 b (omega arith) (omega arith) (q.0 e)), λ M. q.1 (table_no staged_rows 10 (part 9221 9161 b) (of_map M)))
 
-  pub seen_both : (r ≡ true → TableIn slot.Name 32 (part 18382 1057 b)) × (TableIn slot.Name 32 (part 18382 1057 b) → r ≡ true) → (r ≡ true → SeenIn b) × (SeenIn b → r ≡ true)
+  pub seen_both : (r ≡ true → TableIn 33 33 (filled resource_id) 32 (part 18382 1057 b)) × (TableIn 33 33 (filled resource_id) 32 (part 18382 1057 b) → r ≡ true) → (r ≡ true → SeenIn b) × (SeenIn b → r ≡ true)
   unfolding document01
-  seen_both q = (λ e. to_names (table_yes slot.Name name_rows 18382 1057 32 b (omega arith) (omega arith) (q.0 e)), λ M. q.1 (table_no slot.Name name_rows 32 (part 18382 1057 b) (of_names M)))
+  seen_both q = (λ e. to_names (table_yes name_rows 18382 1057 32 b (omega arith) (omega arith) (q.0 e)), λ M. q.1 (table_no name_rows 32 (part 18382 1057 b) (of_names M)))
 
-  pub observed_both : (r ≡ true → TableIn slot.Name 16 (part 19439 529 b)) × (TableIn slot.Name 16 (part 19439 529 b) → r ≡ true) → (r ≡ true → ObservedIn b) × (ObservedIn b → r ≡ true)
+  pub observed_both : (r ≡ true → TableIn 33 33 (filled resource_id) 16 (part 19439 529 b)) × (TableIn 33 33 (filled resource_id) 16 (part 19439 529 b) → r ≡ true) → (r ≡ true → ObservedIn b) × (ObservedIn b → r ≡ true)
   unfolding document01
-  observed_both q = (λ e. to_names (table_yes slot.Name name_rows 19439 529 16 b (omega arith) (omega arith) (q.0 e)), λ M. q.1 (table_no slot.Name name_rows 16 (part 19439 529 b) (of_names M)))
+  observed_both q = (λ e. to_names (table_yes name_rows 19439 529 16 b (omega arith) (omega arith) (q.0 e)), λ M. q.1 (table_no name_rows 16 (part 19439 529 b) (of_names M)))
 
-  pub flights_both : (r ≡ true → TableIn slot.Flight 24 (part 55643 1033 b)) × (TableIn slot.Flight 24 (part 55643 1033 b) → r ≡ true) → (r ≡ true → FlightsIn b) × (FlightsIn b → r ≡ true)
+  pub flights_both : (r ≡ true → TableIn 43 9 is_flight 24 (part 55643 1033 b)) × (TableIn 43 9 is_flight 24 (part 55643 1033 b) → r ≡ true) → (r ≡ true → FlightsIn b) × (FlightsIn b → r ≡ true)
   unfolding document01
-  flights_both q = (λ e. to_map (table_yes slot.Flight flight_rows 55643 1033 24 b (omega arith) (omega arith) (q.0 e)), λ M. q.1 (table_no slot.Flight flight_rows 24 (part 55643 1033 b) (of_map M)))
+  flights_both q = (λ e. to_map (table_yes flight_rows 55643 1033 24 b (omega arith) (omega arith) (q.0 e)), λ M. q.1 (table_no flight_rows 24 (part 55643 1033 b) (of_map M)))
 
-  pub learned_both : (r ≡ true → TableIn slot.Learned 32 (part 56684 1313 b)) × (TableIn slot.Learned 32 (part 56684 1313 b) → r ≡ true) → (r ≡ true → LearnedIn b) × (LearnedIn b → r ≡ true)
+  pub learned_both : (r ≡ true → TableIn 41 33 (is_named 8 u64) 32 (part 56684 1313 b)) × (TableIn 41 33 (is_named 8 u64) 32 (part 56684 1313 b) → r ≡ true) → (r ≡ true → LearnedIn b) × (LearnedIn b → r ≡ true)
   unfolding document01
-  learned_both q = (λ e. to_map (table_yes slot.Learned learned_rows 56684 1313 32 b (omega arith) (omega arith) (q.0 e)), λ M. q.1 (table_no slot.Learned learned_rows 32 (part 56684 1313 b) (of_map M)))
+  learned_both q = (λ e. to_map (table_yes learned_rows 56684 1313 32 b (omega arith) (omega arith) (q.0 e)), λ M. q.1 (table_no learned_rows 32 (part 56684 1313 b) (of_map M)))
 
-  pub aliases_both : (r ≡ true → TableIn slot.Alias 8 (part 58014 529 b)) × (TableIn slot.Alias 8 (part 58014 529 b) → r ≡ true) → (r ≡ true → AliasesIn b) × (AliasesIn b → r ≡ true)
+  pub aliases_both : (r ≡ true → TableIn 66 33 (is_named 33 resource_id) 8 (part 58014 529 b)) × (TableIn 66 33 (is_named 33 resource_id) 8 (part 58014 529 b) → r ≡ true) → (r ≡ true → AliasesIn b) × (AliasesIn b → r ≡ true)
   unfolding document01
-  aliases_both q = (λ e. to_map (table_yes slot.Alias alias_rows 58014 529 8 b (omega arith) (omega arith) (q.0 e)), λ M. q.1 (table_no slot.Alias alias_rows 8 (part 58014 529 b) (of_map M)))
+  aliases_both q = (λ e. to_map (table_yes alias_rows 58014 529 8 b (omega arith) (omega arith) (q.0 e)), λ M. q.1 (table_no alias_rows 8 (part 58014 529 b) (of_map M)))

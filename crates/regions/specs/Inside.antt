@@ -1,7 +1,7 @@
 -- What the bytes of each region of a state are: those of a value that fits. Assumes nothing.
 use Prim.Native.Nat.{ℕ, Ordering}
-use Rattle.std.specs.Prelude.{◌≡◌, true, List}
-use Rattle.std.proofs.Math.Option.{Option}
+use Rattle.std.specs.Prelude.{◌≡◌, true, Bool, List, Option}
+use Rattle.std.specs.List.{list_all}
 use Rattle.format.specs.Format.{Format, option, stamp, bool}
 use Rattle.tables.specs.Table.{WellFormed, slots_of}
 use Rattle.lent.specs.Lent.{part}
@@ -14,8 +14,6 @@ use Rattle.model.specs.Formats.{resource_id, short_text, u64, event_f, list_from
 use Rattle.model.specs.SavedForm.{staged_f, purpose_f}
 use Rattle.state.specs.Layout.{field, region, name_slot, record_slot, staged_slot, flight_slot, learned_slot, alias_slot, edit_slots, pending_width, pass_of}
 use Rattle.state.specs.Fits.{Held, Names, PassFits, EditsFit}
-use Rattle.regions.specs.Tests.{is_slot, every_slot, stride, key_width}
-use Rattle.regions.specs.declared.table.Slot.{Slot}
 
 -- a field holds a value that may stand in it
 pub record FieldIn {A : Type 0} (width : ℕ) (f : Format A) (b : List ℕ) : Type 0 where
@@ -35,10 +33,10 @@ pub record NamesIn (limit : ℕ) (b : List ℕ) : Type 0 where
   pub held : Names limit names
   pub bytes : b ≡ region limit 33 (map name_slot names)
 
--- a region holds a table of slots of a kind: what the code tests
-pub record TableIn (kind : Slot) (limit : ℕ) (b : List ℕ) : Type 0 where
-  pub table : WellFormed (stride kind) (key_width kind) limit b
-  pub slots : every_slot (is_slot kind) (slots_of (stride kind) b) ≡ true
+-- a region holds a table of slots that pass a test: what the code tests
+pub record TableIn (stride width : ℕ) (test : List ℕ → Bool) (limit : ℕ) (b : List ℕ) : Type 0 where
+  pub table : WellFormed stride width limit b
+  pub slots : list_all test (slots_of stride b) ≡ true
 
 -- ---- the regions of a state
 

@@ -5,13 +5,16 @@ mod field;
 mod others;
 mod pass;
 mod single;
+mod slot;
 mod table;
+mod walks;
 
-pub use field::{Value, ends, field_at, field_in, zeros_at};
+pub use field::{ends, field_of};
 pub use others::others_in;
 pub use pass::pass_in;
 pub use single::{
     aliases_in, cursor_in, done_in, flights_in, from_in, full_in, learned_all_in, learned_in,
     next_request_in, now_in, observed_in, records_in, seen_in, staged_in,
 };
-pub use table::{Slot, table_at, table_in};
+pub use table::table_in;
+pub use walks::{skip_flag, skip_purpose, skip_staged, skip_time};

@@ -13,29 +13,13 @@ pub fn others_in(state: &[u8]) -> bool
     requires { length state.now ≡ state_length }
     ensures { (result ≡ true → OthersIn state.now) × (OthersIn state.now → result ≡ true) }
 {
-    if !records_in(state) {
-        return false;
-    }
-    if !cursor_in(state) {
-        return false;
-    }
-    if !pass_in(state) {
-        return false;
-    }
-    if !flights_in(state) {
-        return false;
-    }
-    if !next_request_in(state) {
-        return false;
-    }
-    if !learned_in(state) {
-        return false;
-    }
-    if !learned_all_in(state) {
-        return false;
-    }
-    if !now_in(state) {
-        return false;
-    }
-    aliases_in(state)
+    records_in(state)
+        && cursor_in(state)
+        && pass_in(state)
+        && flights_in(state)
+        && next_request_in(state)
+        && learned_in(state)
+        && learned_all_in(state)
+        && now_in(state)
+        && aliases_in(state)
 }

@@ -3,20 +3,29 @@ ghost use Rattle.std.specs.Prelude.{◌≡◌, true, length};
 ghost use Rattle.state.specs.Contract.{state_length};
 ghost use Rattle.regions.specs.Inside.{RecordsIn, CursorIn, FullIn, FromIn, StagedIn, SeenIn, ObservedIn, DoneIn, FlightsIn, NextIn, LearnedIn, LearnedAllIn, NowIn, AliasesIn};
 
-use crate::field::{Value, field_at};
-use crate::table::{Slot, table_at};
+use crate::field::{ends, field_of};
+use crate::slot::{is_alias, is_flight, is_learned, is_name, is_record, is_staged};
+use crate::table::table_in;
+use crate::walks::{skip_flag, skip_time};
+use lent::Region;
 
-const RECORDS: usize = 0;
+// The bytes of a name, and of a request number's key.
+const NAME: usize = 33;
 
-const RECORDS_SIZE: usize = 9151;
+const NUMBER: usize = 9;
 
-const RECORDS_LIMIT: usize = 10;
+const RECORDS: Region = Region {
+    at: 0,
+    length: 9151,
+    stride: 915,
+    limit: 10,
+};
 
 pub fn records_in(state: &[u8]) -> bool
     requires { length state.now ≡ state_length }
     ensures { (result ≡ true → RecordsIn state.now) × (RecordsIn state.now → result ≡ true) }
 {
-    table_at(state, RECORDS, RECORDS_SIZE, RECORDS_LIMIT, Slot::Record)
+    table_in(state, RECORDS, NAME, is_record)
 }
 
 const CURSOR: usize = 9151;
@@ -25,7 +34,7 @@ pub fn cursor_in(state: &[u8]) -> bool
     requires { length state.now ≡ state_length }
     ensures { (result ≡ true → CursorIn state.now) × (CursorIn state.now → result ≡ true) }
 {
-    field_at(state, CURSOR, 34, Value::OptionText)
+    ends(field_of(state, CURSOR, 34).skip_option_short_text())
 }
 
 const FULL: usize = 9186;
@@ -34,7 +43,7 @@ pub fn full_in(state: &[u8]) -> bool
     requires { length state.now ≡ state_length }
     ensures { (result ≡ true → FullIn state.now) × (FullIn state.now → result ≡ true) }
 {
-    field_at(state, FULL, 1, Value::Flag)
+    ends(skip_flag(field_of(state, FULL, 1)))
 }
 
 const FROM: usize = 9187;
@@ -43,46 +52,49 @@ pub fn from_in(state: &[u8]) -> bool
     requires { length state.now ≡ state_length }
     ensures { (result ≡ true → FromIn state.now) × (FromIn state.now → result ≡ true) }
 {
-    field_at(state, FROM, 34, Value::ListFrom)
+    ends(field_of(state, FROM, 34).skip_list_from())
 }
 
-const STAGED: usize = 9221;
-
-const STAGED_SIZE: usize = 9161;
-
-const STAGED_LIMIT: usize = 10;
+const STAGED: Region = Region {
+    at: 9221,
+    length: 9161,
+    stride: 916,
+    limit: 10,
+};
 
 pub fn staged_in(state: &[u8]) -> bool
     requires { length state.now ≡ state_length }
     ensures { (result ≡ true → StagedIn state.now) × (StagedIn state.now → result ≡ true) }
 {
-    table_at(state, STAGED, STAGED_SIZE, STAGED_LIMIT, Slot::Staged)
+    table_in(state, STAGED, NAME, is_staged)
 }
 
-const SEEN: usize = 18382;
-
-const SEEN_SIZE: usize = 1057;
-
-const SEEN_LIMIT: usize = 32;
+const SEEN: Region = Region {
+    at: 18382,
+    length: 1057,
+    stride: 33,
+    limit: 32,
+};
 
 pub fn seen_in(state: &[u8]) -> bool
     requires { length state.now ≡ state_length }
     ensures { (result ≡ true → SeenIn state.now) × (SeenIn state.now → result ≡ true) }
 {
-    table_at(state, SEEN, SEEN_SIZE, SEEN_LIMIT, Slot::Name)
+    table_in(state, SEEN, NAME, is_name)
 }
 
-const OBSERVED: usize = 19439;
-
-const OBSERVED_SIZE: usize = 529;
-
-const OBSERVED_LIMIT: usize = 16;
+const OBSERVED: Region = Region {
+    at: 19439,
+    length: 529,
+    stride: 33,
+    limit: 16,
+};
 
 pub fn observed_in(state: &[u8]) -> bool
     requires { length state.now ≡ state_length }
     ensures { (result ≡ true → ObservedIn state.now) × (ObservedIn state.now → result ≡ true) }
 {
-    table_at(state, OBSERVED, OBSERVED_SIZE, OBSERVED_LIMIT, Slot::Name)
+    table_in(state, OBSERVED, NAME, is_name)
 }
 
 const DONE: usize = 19968;
@@ -91,20 +103,21 @@ pub fn done_in(state: &[u8]) -> bool
     requires { length state.now ≡ state_length }
     ensures { (result ≡ true → DoneIn state.now) × (DoneIn state.now → result ≡ true) }
 {
-    field_at(state, DONE, 34, Value::OptionText)
+    ends(field_of(state, DONE, 34).skip_option_short_text())
 }
 
-const FLIGHTS: usize = 55643;
-
-const FLIGHTS_SIZE: usize = 1033;
-
-const FLIGHTS_LIMIT: usize = 24;
+const FLIGHTS: Region = Region {
+    at: 55643,
+    length: 1033,
+    stride: 43,
+    limit: 24,
+};
 
 pub fn flights_in(state: &[u8]) -> bool
     requires { length state.now ≡ state_length }
     ensures { (result ≡ true → FlightsIn state.now) × (FlightsIn state.now → result ≡ true) }
 {
-    table_at(state, FLIGHTS, FLIGHTS_SIZE, FLIGHTS_LIMIT, Slot::Flight)
+    table_in(state, FLIGHTS, NUMBER, is_flight)
 }
 
 const NEXT_REQUEST: usize = 56676;
@@ -113,20 +126,21 @@ pub fn next_request_in(state: &[u8]) -> bool
     requires { length state.now ≡ state_length }
     ensures { (result ≡ true → NextIn state.now) × (NextIn state.now → result ≡ true) }
 {
-    field_at(state, NEXT_REQUEST, 8, Value::Number)
+    ends(field_of(state, NEXT_REQUEST, 8).skip_number(8))
 }
 
-const LEARNED: usize = 56684;
-
-const LEARNED_SIZE: usize = 1313;
-
-const LEARNED_LIMIT: usize = 32;
+const LEARNED: Region = Region {
+    at: 56684,
+    length: 1313,
+    stride: 41,
+    limit: 32,
+};
 
 pub fn learned_in(state: &[u8]) -> bool
     requires { length state.now ≡ state_length }
     ensures { (result ≡ true → LearnedIn state.now) × (LearnedIn state.now → result ≡ true) }
 {
-    table_at(state, LEARNED, LEARNED_SIZE, LEARNED_LIMIT, Slot::Learned)
+    table_in(state, LEARNED, NAME, is_learned)
 }
 
 const LEARNED_ALL: usize = 57997;
@@ -135,7 +149,7 @@ pub fn learned_all_in(state: &[u8]) -> bool
     requires { length state.now ≡ state_length }
     ensures { (result ≡ true → LearnedAllIn state.now) × (LearnedAllIn state.now → result ≡ true) }
 {
-    field_at(state, LEARNED_ALL, 8, Value::Number)
+    ends(field_of(state, LEARNED_ALL, 8).skip_number(8))
 }
 
 const NOW: usize = 58005;
@@ -144,18 +158,19 @@ pub fn now_in(state: &[u8]) -> bool
     requires { length state.now ≡ state_length }
     ensures { (result ≡ true → NowIn state.now) × (NowIn state.now → result ≡ true) }
 {
-    field_at(state, NOW, 9, Value::Time)
+    ends(skip_time(field_of(state, NOW, 9)))
 }
 
-const ALIASES: usize = 58014;
-
-const ALIASES_SIZE: usize = 529;
-
-const ALIASES_LIMIT: usize = 8;
+const ALIASES: Region = Region {
+    at: 58014,
+    length: 529,
+    stride: 66,
+    limit: 8,
+};
 
 pub fn aliases_in(state: &[u8]) -> bool
     requires { length state.now ≡ state_length }
     ensures { (result ≡ true → AliasesIn state.now) × (AliasesIn state.now → result ≡ true) }
 {
-    table_at(state, ALIASES, ALIASES_SIZE, ALIASES_LIMIT, Slot::Alias)
+    table_in(state, ALIASES, NAME, is_alias)
 }

@@ -50,19 +50,11 @@ fn replay(list: &[u8])
     let mut frame = [0u8; lines::MAX_FRAME];
     let mut text = [0u8; program::TEXT];
     let mut t = Tally::new();
-    let mut from = 0;
-    while from < list.len() {
-        let end = lines::line_end(list, from);
+    for line in list.split_inclusive(|b| *b == lines::LINE_FEED) {
+        let line = line.strip_suffix(b"\n").unwrap_or(line);
         t = one(
-            &mut state,
-            &mut work,
-            &mut out,
-            &mut frame,
-            &mut text,
-            &list[from..end],
-            t,
+            &mut state, &mut work, &mut out, &mut frame, &mut text, line, t,
         );
-        from = end + 1;
     }
     t.ended();
 }

@@ -1,34 +1,28 @@
 // Restarts: what was in flight is lost, and is asked for again.
 #![tactic(auto)]
 
-ghost use Rattle.std.specs.Prelude.{◌≡◌, List as Vec, [], ℕ, ◌<◌, length, get_or};
-ghost use Rattle.model.specs.Event.{Text};
+ghost use Rattle.model.specs.Maps.{map};
 ghost use Rattle.model.specs.Machine.{for_each, in_pass};
 ghost use Rattle.model.specs.Sync.{doubt, resume_pass, restart_edit, resume};
-ghost use Rattle.state.specs.Layout.{name_slot};
 ghost use Rattle.state.specs.Contract.{HasState};
-ghost use Rattle.state.specs.Values.{name_of, Named};
-ghost use Rattle.flights.specs.Asked.{Listed};
-ghost use Rattle.observe.specs.Reading.{HasList};
+ghost use Rattle.state.specs.Values.{name_of, Named, EachNamed};
 ghost use Rattle.machine.specs.Contract.{Does};
-ghost use Rattle.restarts.specs.Resuming.{doubt_lost, restart_edits, Queued, HasQueued};
+ghost use Rattle.restarts.specs.Resuming.{doubt_lost, restart_edits};
 
 use machine::Progress;
-use names::Name;
+use names::{Name, NameList};
 
 // ---- the Refreshes that were in flight
 
-fn doubt_each(work: &mut [u8], out: &mut [u8], p: Progress, names: &[u8], count: usize) -> Progress
+fn doubt_each(work: &mut [u8], out: &mut [u8], p: Progress, names: &NameList<24>) -> Progress
     requires has_state { HasState work.old }
-    requires has_list { HasList count names.now }
-    ensures { (l : Vec Text) → Listed l count names.now → Does (for_each doubt l) work.old out.old p result work.new out.new }
+    requires named { EachNamed names.now }
+    ensures { Does (for_each doubt (map name_of names.now)) work.old out.old p result work.new out.new }
 {
     let mut q = p;
-    let mut i = 0;
-    while i < count {
-        let name = flights::listed_name(names, i);
+    for i in 0..names.len() {
+        let name = names.name(i);
         q = observe::doubt(work, out, q, name);
-        i += 1;
     }
     q
 }
@@ -38,11 +32,9 @@ fn doubt_lost(work: &mut [u8], out: &mut [u8], p: Progress) -> Progress
     requires { HasState work.old }
     ensures { Does doubt_lost work.old out.old p result work.new out.new }
 {
-    let list = flights::refreshes(work);
-    let count = list.count;
-    let names = list.bytes;
+    let names = flights::refreshes(work);
     state::clear_in_flight(work);
-    doubt_each(work, out, p, &names, count)
+    doubt_each(work, out, p, &names)
 }
 
 // ---- the open pass
@@ -72,31 +64,15 @@ fn restart_edit(work: &mut [u8], out: &mut [u8], p: Progress, name: Name) -> Pro
     queues::start_edit(work, out, p, name)
 }
 
-// Name i of the queues' names.
-fn queue_name(names: &[u8], i: usize) -> Name
-    requires { (length names.now ≡ 198) × (i < 6) }
-    ensures { (l : Vec Text) (count : ℕ) → Queued l count names.now → i < count → (result.bytes ≡ name_slot (get_or l i [])) × (Named result.bytes) }
-{
-    names::name_at(names, i * 33)
-}
-
-fn restart_each(
-    work: &mut [u8],
-    out: &mut [u8],
-    p: Progress,
-    names: &[u8],
-    count: usize,
-) -> Progress
+fn restart_each(work: &mut [u8], out: &mut [u8], p: Progress, names: &NameList<6>) -> Progress
     requires has_state { HasState work.old }
-    requires has_queued { HasQueued count names.now }
-    ensures { (l : Vec Text) → Queued l count names.now → Does (for_each restart_edit l) work.old out.old p result work.new out.new }
+    requires named { EachNamed names.now }
+    ensures { Does (for_each restart_edit (map name_of names.now)) work.old out.old p result work.new out.new }
 {
     let mut q = p;
-    let mut i = 0;
-    while i < count {
-        let name = queue_name(names, i);
+    for k in 0..names.len() {
+        let name = names.name(k);
         q = restart_edit(work, out, q, name);
-        i += 1;
     }
     q
 }
@@ -105,10 +81,8 @@ fn restart_edits(work: &mut [u8], out: &mut [u8], p: Progress) -> Progress
     requires { HasState work.old }
     ensures { Does restart_edits work.old out.old p result work.new out.new }
 {
-    let list = waiting::resources(work);
-    let count = list.count;
-    let names = list.bytes;
-    restart_each(work, out, p, &names, count)
+    let names = waiting::resources(work);
+    restart_each(work, out, p, &names)
 }
 
 // SyncState::resume

@@ -1,9 +1,9 @@
 -- A sender's bytes are lawful, have one length, and allow exactly the settled senders whose numbers fit. Assumes nothing.
+use Rattle.std.specs.Prelude.{Some}
 use Prim.Native.Nat.{ℕ, zero, suc, ◌+◌, ◌*◌, ◌^◌, ◌≤◌, ◌<◌}
 use native.Mathlib.Omega.{arith}
 use mathlib.Core.Path.{◌≡◌, refl, sym, ap, ◌∙◌}
 use mathlib.Core.List.{List, [], ◌∷◌, ◌++◌}
-use mathlib.Core.Option.{some}
 use mathlib.Core.Bool.{Bool, true, false}
 use lib.ListN.{length, get_or, length-append}
 use lib.Dec.{T, leb, eqb, eqb→eq}
@@ -29,11 +29,11 @@ module _ {A : Type 0} {f : Format A} (F : Lawful f) where
   unfolding list
   list_reads n s = rw (le-leb n n (omega arith))
 
-  each_writes : (xs : List A) → All f.Ok xs → (t : List ℕ) → repeated f.dec (length xs) (concat_map f.enc xs ++ t) ≡ some (xs, t)
+  each_writes : (xs : List A) → All f.Ok xs → (t : List ℕ) → repeated f.dec (length xs) (concat_map f.enc xs ++ t) ≡ Some (xs, t)
   unfolding list
   each_writes xs ok t = sym (list_reads (length xs) (concat_map f.enc xs ++ t)) ∙ (list_law F (length xs)).writes xs (omega arith, ok) t
 
-  each_reads : (n : ℕ) (s : List ℕ) (r : List A × List ℕ) → repeated f.dec n s ≡ some r → (s ≡ concat_map f.enc r.0 ++ r.1) × ((length r.0 ≡ n) × All f.Ok r.0)
+  each_reads : (n : ℕ) (s : List ℕ) (r : List A × List ℕ) → repeated f.dec n s ≡ Some r → (s ≡ concat_map f.enc r.0 ++ r.1) × ((length r.0 ≡ n) × All f.Ok r.0)
   unfolding list
   each_reads n s r e =
       let u = (list_law F n).reads (n ∷ s) r (list_reads n s ∙ e) in

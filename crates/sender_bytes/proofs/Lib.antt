@@ -4,8 +4,6 @@ pub mod BytesLaws
 pub mod StructLaws
 -- A buffer read and written place by place.
 pub mod PlaceLaws
--- Loops that test.
-pub mod CheckLaws
 -- What the tests say together.
 pub mod SenderLaws
 -- What the exported functions cite.

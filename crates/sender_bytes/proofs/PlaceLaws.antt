@@ -1,12 +1,16 @@
 -- Laws of a sender's buffer: an array filled from parts of it, one after the other; parts written into it one after the other; all of it written. Assumes nothing.
+use Rattle.std.specs.Fn.{Called}
+use Rattle.std.specs.Array.{IsFromFnResultFrom, IsFromFnResult}
+use Rattle.std.proofs.lemmas.List.{drop_more, drop_all}
+use denote.Param.Members.{Mut}
 use Prim.Native.Nat.{ℕ, zero, suc, ◌+◌, ◌-◌, ◌*◌, ◌≤◌, ◌<◌}
 use native.Mathlib.Nat.{le_of_suc-le-suc, not-suc-le-zero, suc-mul}
 use native.Mathlib.Numerals.{add-one}
 use native.Mathlib.Omega.{arith}
-use mathlib.Core.Path.{◌≡◌, refl, sym, ap, ◌∙◌}
+use mathlib.Core.Path.{◌≡◌, refl, sym, ap, ◌∙◌, subst}
 use mathlib.Core.List.{List, [], ◌∷◌, ◌++◌, map, append_assoc, append-nil}
-use lib.ListN.{length, get_or, set, take, drop, replicate, length-append, length-drop, length-set, length-replicate, length-map, take-append-drop, drop_of_length-le}
-use lib.Seq.{take_all, take-suc-set, take_at, drop_at, drop-cons, drop-drop, append_snoc, set_split, length-take-le, get_or-drop}
+use lib.ListN.{length, get_or, set, take, drop, replicate, length-append, length-drop, length-replicate, length-map, take-append-drop, drop_of_length-le}
+use lib.Seq.{take_at, drop_at, drop-drop, set_split, length-take-le, get_or-drop}
 use Rattle.format.specs.Format.{All, concat_map}
 use Rattle.numbers.specs.Big.{from_be, to_be}
 use Rattle.numbers.proofs.Laws.{length_to}
@@ -18,89 +22,45 @@ use Rattle.sender_turns.specs.declared.Sender.{Sender as SenderStruct}
 use Rattle.sender_bytes.specs.Bytes.{number_bytes, call_bytes, lane_bytes, out_bytes, sender_length}
 use Rattle.sender_bytes.specs.Read.{parts, number_in, lane_in, call_in, sender_in, lane_out, call_out, sender_out, with_at, IsSender}
 
-next_place : (from i width : ℕ) → from + i * width + width ≡ from + (i + 1) * width
-next_place from i width = rw (add-one i, suc-mul i width) (omega arith)
+next_place : (i width : ℕ) → i * width + width ≡ (i + 1) * width
+next_place i width = rw (add-one i, suc-mul i width) (omega arith)
 
 -- ---- reading
 
--- the first i of n places of an array hold what stands in the bytes from `from` on, and the next part stands at `at`
-pub record Filled {A : Type 0} (width : ℕ) (value : List ℕ → A) (n from : ℕ) (b : List ℕ) (l : List A) (i at : ℕ) : Type 0 where
-  pub within : i ≤ n
-  pub place : at ≡ from + i * width
-  pub long : length l ≡ n
-  pub is : take i l ++ parts width value (n - i) (drop at b) ≡ parts width value n (drop from b)
+-- an array whose places a closure makes, each from the part of the bytes there
+module _ {F A : Type 0} (g : Mut F (ℕ × Unit {0}) A) (width : ℕ) (value : List ℕ → A) (b : List ℕ) (f : F)
+    (place : ℕ → ℕ) (next : (i : ℕ) → place (i + 1) ≡ place i + width)
+    (reads : (i : ℕ) (y : A) (q : F) → Called g f (i, tt) y q → (q ≡ f) × (y ≡ value (drop (place i) b))) where
+  made_from : (n i : ℕ) (q : F) (l : List A) → q ≡ f → IsFromFnResultFrom g q l i n → length l ≡ i + n → drop i l ≡ parts width value n (drop (place i) b)
+  unfolding parts
+  made_from zero i q l same each e = drop_all i l (omega arith)
+  made_from (suc n) i q l same each e =
+      let r = reads i each.1 each.0 (subst (λ (p : F). Called g p (i, tt) each.1 each.0) same each.3) in
+      let more = made_from n (i + 1) each.0 l r.0 each.4 (omega arith) in
+      let cut : drop i l ≡ each.1 ∷ drop (i + 1) l = drop_more l i each.1 (omega arith) ∙ ap (λ y. y ∷ drop (i + 1) l) (each.2.1 each.1) in
+      rw (cut, more, r.1, drop-drop width (place i) b, next i)
 
--- nothing is filled yet
-pub fill_start : {A : Type 0} (width : ℕ) (value : List ℕ → A) (n from : ℕ) (b : List ℕ) (l : List A) → length l ≡ n → Filled width value n from b l 0 from
-fill_start width value n from b l e =
-    let all : n - 0 ≡ n = omega arith in
-    record { within = omega arith; place = omega arith; long = e; is = rw all }
-
--- an array that holds the first part at each place
-pub fill_first : {A : Type 0} (width : ℕ) (value : List ℕ → A) (n from : ℕ) (b : List ℕ) (x : A) → 0 < n → x ≡ value (drop from b)
-    → Filled width value n from b (replicate n x) 1 (from + width)
-unfolding parts
-fill_first width value zero from b x h e = absurd (not-suc-le-zero h)
-fill_first width value (suc n) from b x h e =
-    let left : suc n - 1 ≡ n = omega arith in
-    record {
-      within = omega arith;
-      place = omega arith;
-      long = length-replicate (suc n) x;
-      is = rw (left, e, drop-drop width from b);
-    }
-
--- one place more is filled
-pub fill_turn : {A : Type 0} (width : ℕ) (value : List ℕ → A) (n from : ℕ) (b : List ℕ) (l : List A) (i at : ℕ) (x : A)
-    → Filled width value n from b l i at → i < n → x ≡ value (drop at b) → Filled width value n from b (set l i x) (i + 1) (at + width)
-unfolding parts
-fill_turn width value n from b l i at x w h e =
-    let front : take (i + 1) (set l i x) ≡ take i l ++ (x ∷ []) = rw (add-one i) (take-suc-set l i x (omega (arith, w.long))) in
-    let left : n - i ≡ suc (n - (i + 1)) = omega arith in
-    let rest : parts width value (n - i) (drop at b) ≡ x ∷ parts width value (n - (i + 1)) (drop (at + width) b) = rw (left, drop-drop width at b, e) in
-    record {
-      within = omega arith;
-      place = rw w.place (next_place from i width);
-      long = length-set l i x ∙ w.long;
-      is = rw front (append_snoc (take i l) x (parts width value (n - (i + 1)) (drop (at + width) b)) ∙ (rw rest at w.is));
-    }
-
-pub fill_end : {A : Type 0} (width : ℕ) (value : List ℕ → A) (n from : ℕ) (b : List ℕ) (l : List A) (i at : ℕ)
-    → Filled width value n from b l i at → n ≤ i → l ≡ parts width value n (drop from b)
-unfolding parts
-fill_end width value n from b l i at w h =
-    let none : n - i ≡ 0 = omega arith in
-    let all : take i l ≡ l = take_all i l (omega (arith, w.long)) in
-    let whole : take i l ++ parts width value (n - i) (drop at b) ≡ l = rw (none, all) (append-nil l) in
-    sym whole ∙ w.is
+  pub made : (n : ℕ) (l : List A) → IsFromFnResult g f l n → l ≡ parts width value n (drop (place 0) b)
+  made n l m = made_from n 0 f l refl m.each (omega (arith, m.long))
 
 byte_at : (at : ℕ) (b : List ℕ) → get_or b at 0 ≡ get_or (drop at b) 0 0
 byte_at at b = let e : at + 0 ≡ at = omega arith in sym (get_or-drop at b 0 0 ∙ ap (λ (i : ℕ). get_or b i 0) e)
 
-pub lane_is : (at : ℕ) (b numbers : List ℕ) → numbers ≡ parts number_bytes number_in lane_size (drop (at + 1) b)
-    → ◌≡◌ {A = Lane} (record { numbers = numbers; count = get_or b at 0 }) (lane_in (drop at b))
+pub lane_is : (at : ℕ) (b numbers : List ℕ) (count : ℕ) → numbers ≡ parts number_bytes number_in lane_size (drop (at + 1 + 0 * number_bytes) b) → count ≡ get_or b at 0
+    → ◌≡◌ {A = Lane} (record { numbers = numbers; count = count }) (lane_in (drop at b))
 unfolding lane_in
-lane_is at b numbers e = rw (byte_at at b, drop-drop 1 at b, e)
+lane_is at b numbers count e f = let z : at + 1 + 0 * number_bytes ≡ at + 1 = omega arith in rw (e, z, f, byte_at at b, drop-drop 1 at b)
 
-pub call_is : (at : ℕ) (b : List ℕ) (number : ℕ) → number ≡ number_in (drop (at + 1) b)
+pub call_is : (at : ℕ) (b : List ℕ) (number : ℕ) → number ≡ from_be 0 (take number_bytes (drop (at + 1) b))
     → ◌≡◌ {A = CallStruct} (record { mill = get_or b at 0; number = number }) (call_in (drop at b))
-unfolding call_in
+unfolding call_in number_in
 call_is at b number e = rw (byte_at at b, drop-drop 1 at b, e)
 
-pub number_is : (at : ℕ) (b : List ℕ) → from_be 0 (take number_bytes (drop at b)) ≡ number_in (drop at b)
-unfolding number_in
-number_is at b = refl
-
-pub sender_is : (b : List ℕ) (lanes : List Lane) (held : List CallStruct) → lanes ≡ parts lane_bytes lane_in mills b
-    → held ≡ parts call_bytes call_in calls (drop (mills * lane_bytes + 1) b)
-    → ◌≡◌ {A = SenderStruct} (record {
-      lanes = lanes;
-      calls = held;
-      out = get_or b (mills * lane_bytes) 0;
-      turn = get_or b (mills * lane_bytes + out_bytes) 0;
-    }) (sender_in b)
+pub sender_is : (b : List ℕ) (lanes : List Lane) (held : List CallStruct) (out turn : ℕ) → lanes ≡ parts lane_bytes lane_in mills b
+    → held ≡ parts call_bytes call_in calls (drop (mills * lane_bytes + 1) b) → out ≡ get_or b (mills * lane_bytes) 0 → turn ≡ get_or b (mills * lane_bytes + out_bytes) 0
+    → ◌≡◌ {A = SenderStruct} (record { lanes = lanes; calls = held; out = out; turn = turn }) (sender_in b)
 unfolding sender_in
-sender_is b lanes held l c = rw (l, c)
+sender_is b lanes held out turn l c o t = rw (l, c, o, t)
 
 -- ---- writing
 
@@ -130,36 +90,32 @@ with_long : (at : ℕ) (p b : List ℕ) → at + length p ≤ length b → lengt
 with_long at p b h =
     simp (length-append, length-drop) (let t : length (take at b) ≡ at = length-take-le at b (omega arith) in omega arith)
 
--- the first i of the values are written from `from` on; the others, written from `at` on, are what is left to do
-pub record Written {A : Type 0} (width : ℕ) (out : A → List ℕ) (xs : List A) (from : ℕ) (b d : List ℕ) (i at : ℕ) : Type 0 where
-  pub within : i ≤ length xs
-  pub place : at ≡ from + i * width
+-- the first i of the values are written from `from` on; the others are what is left to do
+pub record Written {A : Type 0} (width : ℕ) (out : A → List ℕ) (xs : List A) (from : ℕ) (b d : List ℕ) (i : ℕ) : Type 0 where
   pub long : length d ≡ length b
-  pub is : with_at at (concat_map out (drop i xs)) d ≡ with_at from (concat_map out xs) b
+  pub is : with_at (from + i * width) (concat_map out (drop i xs)) d ≡ with_at from (concat_map out xs) b
 
-pub write_start : {A : Type 0} (width : ℕ) (out : A → List ℕ) (xs : List A) (from : ℕ) (b : List ℕ) → Written width out xs from b b 0 from
-write_start width out xs from b = record { within = omega arith; place = omega arith; long = refl; is = refl }
+module _ {A : Type 0} (width : ℕ) (out : A → List ℕ) (xs : List A) (from : ℕ) (b : List ℕ) where
+  pub write_start : Written width out xs from b b 0
+  write_start = let e : from + 0 * width ≡ from = omega arith in record { long = refl; is = rw e }
 
-pub write_turn : {A : Type 0} (width : ℕ) (out : A → List ℕ) (xs : List A) (from : ℕ) (b d : List ℕ) (i at : ℕ) (z : A) (d' : List ℕ)
-    → Written width out xs from b d i at → i < length xs → length (out (get_or xs i z)) ≡ width → at + width ≤ length d → d' ≡ with_at at (out (get_or xs i z)) d
-    → Written width out xs from b d' (i + 1) (at + width)
-write_turn width out xs from b d i at z d' w h n r e =
-    let rest : List ℕ = concat_map out (drop (i + 1) xs) in
-    let cut : drop i xs ≡ get_or xs i z ∷ drop (i + 1) xs = rw (add-one i) (drop-cons xs i z h) in
-    let more : with_at (at + width) rest d' ≡ with_at at (concat_map out (drop i xs)) d = rw (e, cut) (with_two at (out (get_or xs i z)) rest d (at + width) (omega arith) (omega arith)) in
-    record {
-      within = omega arith;
-      place = rw w.place (next_place from i width);
-      long = rw e (with_long at (out (get_or xs i z)) d (omega arith)) ∙ w.long;
-      is = more ∙ w.is;
-    }
+  pub write_turn : (d : List ℕ) (i : ℕ) (z : A) (d' : List ℕ) → Written width out xs from b d i → i < length xs → length (out (get_or xs i z)) ≡ width → from + i * width + width ≤ length d
+      → d' ≡ with_at (from + i * width) (out (get_or xs i z)) d → Written width out xs from b d' (i + 1)
+  write_turn d i z d' w h n r e =
+      let at : ℕ = from + i * width in
+      let rest : List ℕ = concat_map out (drop (i + 1) xs) in
+      let cut : drop i xs ≡ get_or xs i z ∷ drop (i + 1) xs = drop_more xs i z h in
+      let next : from + (i + 1) * width ≡ at + width = omega (arith, next_place i width) in
+      let more : with_at (at + width) rest d' ≡ with_at at (concat_map out (drop i xs)) d = rw (e, cut) (with_two at (out (get_or xs i z)) rest d (at + width) (omega arith) (omega arith)) in
+      record {
+        long = rw e (with_long at (out (get_or xs i z)) d (omega arith)) ∙ w.long;
+        is = rw next (more ∙ w.is);
+      }
 
-pub write_end : {A : Type 0} (width : ℕ) (out : A → List ℕ) (xs : List A) (from : ℕ) (b d : List ℕ) (i at : ℕ) → Written width out xs from b d i at → length xs ≤ i
-    → d ≡ with_at from (concat_map out xs) b
-write_end width out xs from b d i at w h =
-    let none : drop i xs ≡ [] = drop_of_length-le xs {i = i} h in
-    let done : with_at at (concat_map out (drop i xs)) d ≡ d = rw none (with_none at d) in
-    sym done ∙ w.is
+  pub write_end : (d : List ℕ) (i : ℕ) → Written width out xs from b d i → length xs ≤ i → d ≡ with_at from (concat_map out xs) b
+  write_end d i w h =
+      let done : with_at (from + i * width) (concat_map out (drop i xs)) d ≡ d = rw (drop_all i xs h) (with_none (from + i * width) d) in
+      sym done ∙ w.is
 
 -- a byte, and a part behind it
 behind_byte : (at x : ℕ) (p b : List ℕ) → at < length b → with_at (at + 1) p (set b at x) ≡ with_at at (x ∷ p) b

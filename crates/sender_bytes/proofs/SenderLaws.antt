@@ -10,8 +10,8 @@ use lib.Seq.{length-take-le, drop-append_seam}
 use lib.Dec.{leb, ltb, eqb}
 use Rattle.format.specs.Format.{All}
 use Rattle.format.proofs.FormatLaws.{and_inv}
-use Rattle.model.specs.Maps.{when◌then◌else◌}
-use Rattle.model.specs.WellFormed.{all}
+use Rattle.std.specs.Prelude.{if◌then◌else◌}
+use Rattle.std.specs.List.{list_all}
 use Rattle.sender_turns.specs.Sender.{Call, Sender, mills, calls, lane_size, lane, after}
 use Rattle.sender_turns.specs.Claims.{last_mill, Settled}
 use Rattle.sender_turns.specs.Laid.{lane_of, call_of, no_call, calls_of, laid_out}
@@ -23,13 +23,11 @@ use Rattle.sender_bytes.specs.Check.{is_zero, lane_ok, lanes_ok, place_ok, place
 
 -- ---- lanes
 
-zeros_is : (l : List ℕ) → all is_zero l ≡ true → l ≡ replicate (length l) 0
-unfolding all is_zero
+zeros_is : (l : List ℕ) → list_all is_zero l ≡ true → l ≡ replicate (length l) 0
 zeros_is [] e = refl
-zeros_is (n ∷ l) e = let p = and_inv (eqb n 0) (all is_zero l) e in ap₂ ◌∷◌ (eqb-true n 0 p.0) (zeros_is l p.1)
+zeros_is (n ∷ l) e = let p = and_inv (eqb n 0) (list_all is_zero l) e in ap₂ ◌∷◌ (eqb-true n 0 p.0) (zeros_is l p.1)
 
-zeros_all : (n : ℕ) → all is_zero (replicate n 0) ≡ true
-unfolding all is_zero
+zeros_all : (n : ℕ) → list_all is_zero (replicate n 0) ≡ true
 zeros_all zero = refl
 zeros_all (suc n) = zeros_all n
 
@@ -37,7 +35,7 @@ zeros_all (suc n) = zeros_all n
 abbrev waits : Lane → List ℕ
 waits l = take l.count l.numbers
 
-pub ok_parts : (l : Lane) → lane_ok l ≡ true → (l.count ≤ lane_size) × (length l.numbers ≡ lane_size) × (all is_zero (drop l.count l.numbers) ≡ true)
+pub ok_parts : (l : Lane) → lane_ok l ≡ true → (l.count ≤ lane_size) × (length l.numbers ≡ lane_size) × (list_all is_zero (drop l.count l.numbers) ≡ true)
 unfolding lane_ok
 ok_parts l e =
     let p = and_inv (leb l.count lane_size) _ e in
@@ -57,28 +55,26 @@ lane_back l e =
     sym (take-append-drop l.count l.numbers) ∙ ap (λ (x : List ℕ). waits l ++ x) rest in
     rw (waits_long l e) (ap (λ (x : List ℕ). record { numbers = x; count = l.count }) whole)
 
-pub lanes_parts : (l : List Lane) → lanes_ok l ≡ true → (length l ≡ mills) × (all lane_ok l ≡ true)
-unfolding lanes_ok
-lanes_parts l e = let p = and_inv (eqb (length l) mills) (all lane_ok l) e in (eqb-true _ _ p.0, p.1)
+pub lanes_parts : (l : List Lane) → lanes_ok l ≡ true → (length l ≡ mills) × (list_all lane_ok l ≡ true)
+lanes_parts l e = let p = and_inv (eqb (length l) mills) (list_all lane_ok l) e in (eqb-true _ _ p.0, p.1)
 
-lanes_back : (l : List Lane) → all lane_ok l ≡ true → l ≡ map lane_of (map waits l)
-unfolding all
+lanes_back : (l : List Lane) → list_all lane_ok l ≡ true → l ≡ map lane_of (map waits l)
 lanes_back [] e = refl
-lanes_back (a ∷ l) e = let p = and_inv (lane_ok a) (all lane_ok l) e in ap₂ ◌∷◌ (lane_back a p.0) (lanes_back l p.1)
+lanes_back (a ∷ l) e = let p = and_inv (lane_ok a) (list_all lane_ok l) e in ap₂ ◌∷◌ (lane_back a p.0) (lanes_back l p.1)
 
-lanes_short : (l : List Lane) → all lane_ok l ≡ true → (mill : ℕ) → length (lane mill (map waits l)) ≤ lane_size
-unfolding all lane
+lanes_short : (l : List Lane) → list_all lane_ok l ≡ true → (mill : ℕ) → length (lane mill (map waits l)) ≤ lane_size
+unfolding lane
 lanes_short [] e mill = omega arith
 lanes_short (a ∷ l) e zero =
-    let p = and_inv (lane_ok a) (all lane_ok l) e in
+    let p = and_inv (lane_ok a) (list_all lane_ok l) e in
     omega (arith, waits_long a p.0, (ok_parts a p.0).0)
-lanes_short (a ∷ l) e (suc mill) = lanes_short l (and_inv (lane_ok a) (all lane_ok l) e).1 mill
+lanes_short (a ∷ l) e (suc mill) = lanes_short l (and_inv (lane_ok a) (list_all lane_ok l) e).1 mill
 
-lanes_idle : (l : List Lane) → all is_idle l ≡ true → (mill : ℕ) → lane mill (map waits l) ≡ []
-unfolding all lane is_idle is_zero
+lanes_idle : (l : List Lane) → list_all is_idle l ≡ true → (mill : ℕ) → lane mill (map waits l) ≡ []
+unfolding lane
 lanes_idle [] e mill = refl
-lanes_idle (a ∷ l) e zero = rw (eqb-true a.count 0 (and_inv (is_idle a) (all is_idle l) e).0)
-lanes_idle (a ∷ l) e (suc mill) = lanes_idle l (and_inv (is_idle a) (all is_idle l) e).1 mill
+lanes_idle (a ∷ l) e zero = rw (eqb-true a.count 0 (and_inv (is_idle a) (list_all is_idle l) e).0)
+lanes_idle (a ∷ l) e (suc mill) = lanes_idle l (and_inv (is_idle a) (list_all is_idle l) e).1 mill
 
 lane_there : (l : List ℕ) → length l ≤ lane_size → lane_ok (lane_of l) ≡ true
 unfolding lane_ok lane_of
@@ -86,13 +82,13 @@ lane_there l h =
     let n : length (l ++ replicate (lane_size - length l) 0) ≡ lane_size = simp (length-append, length-replicate) (omega arith) in
     rw (le-leb (length l) lane_size h, eq-eqb _ _ n, drop-append_seam l (replicate (lane_size - length l) 0)) (zeros_all (lane_size - length l))
 
-lanes_there : (l : List (List ℕ)) → ((mill : ℕ) → length (lane mill l) ≤ lane_size) → all lane_ok (map lane_of l) ≡ true
-unfolding all lane
+lanes_there : (l : List (List ℕ)) → ((mill : ℕ) → length (lane mill l) ≤ lane_size) → list_all lane_ok (map lane_of l) ≡ true
+unfolding lane
 lanes_there [] h = refl
 lanes_there (a ∷ l) h = rw (lane_there a (h 0)) (lanes_there l (λ mill. h (suc mill)))
 
-idle_there : (l : List (List ℕ)) → ((mill : ℕ) → lane mill l ≡ []) → all is_idle (map lane_of l) ≡ true
-unfolding all lane is_idle lane_of is_zero
+idle_there : (l : List (List ℕ)) → ((mill : ℕ) → lane mill l ≡ []) → list_all is_idle (map lane_of l) ≡ true
+unfolding lane lane_of
 idle_there [] h = refl
 idle_there (a ∷ l) h = rw (h 0) (idle_there l (λ mill. h (suc mill)))
 
@@ -102,7 +98,7 @@ abbrev pair : CallStruct → Call
 pair c = (c.mill, c.number)
 
 none_out : (out at : ℕ) (c : CallStruct) (l : List CallStruct) → out ≤ at → places_ok out at (c ∷ l) ≡ true → (c ≡ no_call) × (places_ok out (at + 1) l ≡ true)
-unfolding places_ok place_ok is_zero
+unfolding place_ok
 none_out out at c l h e =
     let f : (place_ok false c && places_ok out (at + 1) l) ≡ true = rw (le-ltb at out h) at e in
     let p = and_inv _ _ f in
@@ -110,7 +106,7 @@ none_out out at c l h e =
     (ap₂ (λ (m n : ℕ). record { mill = m; number = n }) (eqb-true _ _ q.0) (eqb-true _ _ q.1), p.1)
 
 one_out : (out at : ℕ) (c : CallStruct) (l : List CallStruct) → at < out → places_ok out at (c ∷ l) ≡ true → (c.mill < mills) × (places_ok out (at + 1) l ≡ true)
-unfolding places_ok place_ok
+unfolding place_ok
 one_out out at c l h e =
     let f : (place_ok true c && places_ok out (at + 1) l) ≡ true = rw (lt-ltb at out h) at e in
     let p = and_inv _ _ f in
@@ -146,7 +142,6 @@ held out at (suc left) (c ∷ l) n e =
     }
 
 parts_of : (out : ℕ) (l : List CallStruct) → calls_ok out l ≡ true → (out ≤ calls) × (length l ≡ calls) × (places_ok out 0 l ≡ true)
-unfolding calls_ok
 parts_of out l e =
     let p = and_inv (leb out calls) _ e in
     let q = and_inv (eqb (length l) calls) _ p.1 in
@@ -154,12 +149,12 @@ parts_of out l e =
 
 -- the other way: calls that are out, and places past them
 places_free : (out at n : ℕ) → out ≤ at → places_ok out at (replicate n no_call) ≡ true
-unfolding places_ok place_ok is_zero
+unfolding place_ok
 places_free out at zero h = refl
 places_free out at (suc n) h = rw (le-ltb at out h) (places_free out (at + 1) n (omega arith))
 
 places_there : (at n : ℕ) (out : List Call) → All (λ c. c.0 < mills) out → places_ok (at + length out) at (map call_of out ++ replicate n no_call) ≡ true
-unfolding places_ok place_ok call_of
+unfolding place_ok call_of
 places_there at n [] h = places_free (at + 0) at n (omega arith)
 places_there at n (c ∷ out) h =
     let k : at + 1 + length out ≡ at + length (c ∷ out) = omega arith in
@@ -181,7 +176,7 @@ module _ (x : SenderStruct) (eight : length x.lanes ≡ mills) (four : length x.
   abbrev read : Sender
   read = record { lanes = map waits x.lanes; out = map pair (take x.out x.calls); turn = x.turn }
 
-  module _ (turn : x.turn < mills) (lanes : all lane_ok x.lanes ≡ true) (out : calls_ok x.out x.calls ≡ true) (last : settled_ok x ≡ true) where
+  module _ (turn : x.turn < mills) (lanes : list_all lane_ok x.lanes ≡ true) (out : calls_ok x.out x.calls ≡ true) (last : settled_ok x ≡ true) where
     few : x.out ≤ calls
     few = (parts_of x.out x.calls out).0
 
@@ -196,13 +191,12 @@ module _ (x : SenderStruct) (eight : length x.lanes ≡ mills) (four : length x.
     calls_back = held_calls.is ∙ ap (λ (n : ℕ). map call_of read.out ++ replicate n no_call) (ap₂ ◌-◌ four (sym out_long))
 
     idle : (calls ≤ x.out → ⊥) → (mill : ℕ) → lane mill read.lanes ≡ []
-    unfolding settled_ok when◌then◌else◌
     idle h =
         let low : x.out < calls = omega arith in
         lanes_idle x.lanes (rw (lt-ltb x.out calls low) at last)
 
     last_granted : calls ≤ x.out → x.turn ≡ after (last_mill read.out)
-    unfolding settled_ok when◌then◌else◌ calls_of
+    unfolding calls_of
     last_granted h =
         let all-out : x.out ≡ calls = let k = few in omega arith in
         let t : x.turn ≡ after (at_last x) = eqb-true _ _ (rw (le-ltb x.out calls h) at last) in
@@ -242,18 +236,18 @@ module _ (x : SenderStruct) (I : IsSender x) where
   turn_passes = rw I.is I.settled.at
 
   lanes_pass : lanes_ok x.lanes ≡ true
-  unfolding laid_out lanes_ok
+  unfolding laid_out
   lanes_pass = rw (I.is, eq-eqb _ _ (length-map I.sender.lanes lane_of ∙ I.settled.eight)) (lanes_there I.sender.lanes I.settled.short)
 
   calls_pass : calls_ok x.out x.calls ≡ true
-  unfolding laid_out calls_ok calls_of
+  unfolding laid_out calls_of
   calls_pass =
       let s = I.sender in
       let k : 0 + length s.out ≡ length s.out = omega arith in
       let n : length (calls_of s.out) ≡ calls = simp (length-append, length-map, length-replicate) (let w = I.settled.within in omega arith) in
       rw (I.is, le-leb (length s.out) calls I.settled.within, eq-eqb _ _ n) (rw k at (places_there 0 (calls - length s.out) s.out I.settled.there))
 
-  idle_passes : x.out < calls → all is_idle x.lanes ≡ true
+  idle_passes : x.out < calls → list_all is_idle x.lanes ≡ true
   unfolding laid_out
   idle_passes h =
       let low : length I.sender.out < calls = rw I.is at h in
@@ -271,14 +265,16 @@ module _ (x : SenderStruct) (I : IsSender x) where
       rw I.is (eq-eqb _ _ (I.settled.last high ∙ ap after (sym m)))
 
   settled_passes : settled_ok x ≡ true
-  unfolding settled_ok when◌then◌else◌
   settled_passes = go (ltb x.out calls) refl
     where
-      go : (b : Bool) → ltb x.out calls ≡ b → (when b then all is_idle x.lanes else eqb x.turn (after (at_last x))) ≡ true
+      go : (b : Bool) → ltb x.out calls ≡ b → (if b then list_all is_idle x.lanes else eqb x.turn (after (at_last x))) ≡ true
       go true e = idle_passes (ltb-true _ _ e)
       go false e = last_passes (ltb-false _ _ e)
 
 -- ---- what `is_sender` answers
+
+pub lanes_eight : (l : List Lane) (r : Bool) → length l ≡ mills → r ≡ list_all lane_ok l → r ≡ lanes_ok l
+lanes_eight l r n e = rw (eq-eqb (length l) mills n) e
 
 abbrev Decides : SenderStruct → Bool → Type 0
 Decides x r = (r ≡ true → IsSender x) × (IsSender x → r ≡ true)

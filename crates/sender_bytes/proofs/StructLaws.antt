@@ -1,11 +1,11 @@
 -- A sender's bytes and its struct: reading and writing agree, and the struct is a settled sender's exactly where the bytes are. Assumes nothing.
+use Rattle.std.specs.Prelude.{Some}
 use Prim.Native.Nat.{ℕ, zero, suc, ◌+◌, ◌-◌, ◌*◌, ◌/◌, ◌%◌, ◌^◌, ◌≤◌, ◌<◌}
 use native.Mathlib.Nat.{zero-mul, mul_comm, add-mul, div-one, div-div-eq-div-mul, pow-suc, pow-zero, pow-le-pow_right, min-le_left}
 use native.Mathlib.Numerals.{add-one}
 use native.Mathlib.Omega.{arith}
 use mathlib.Core.Path.{◌≡◌, refl, sym, ap, ap₂, ◌∙◌}
 use mathlib.Core.List.{List, [], ◌∷◌, ◌++◌, map, map-id, append_assoc}
-use mathlib.Core.Option.{some}
 use lib.ListN.{length, take, drop, get_or, replicate, length-append, length-replicate, length-take, length-drop, length-map, replicate-append-replicate, take-append-drop}
 use lib.Seq.{take-add, take_all, take-suc, get_or-drop, take_at, drop_at, drop-cons, get_or_at, get_or-append-add, drop-append-add, length-take-le}
 use Rattle.format.specs.Format.{Format, All, concat_map, big_endian, zeros, ◌⊗◌, via, below, number, list, such, padded}
@@ -311,13 +311,13 @@ numbered_in b s h e =
 
 -- ---- reading
 
-pub read_yes : (b : List ℕ) (s : Sender) → length b ≡ sender_length → Bytes b → Settled s → sender_in b ≡ laid_out s → (read_sender b ≡ some s) × (b ≡ sender_f.enc s)
+pub read_yes : (b : List ℕ) (s : Sender) → length b ≡ sender_length → Bytes b → Settled s → sender_in b ≡ laid_out s → (read_sender b ≡ Some s) × (b ≡ sender_f.enc s)
 unfolding read_sender
 read_yes b s l h k e =
     let is : b ≡ sender_f.enc s = sym (out_in b l h) ∙ ap sender_out e ∙ out_enc s k in
     (whole_dec sender_f_law b s (settled_ok s k (numbered_in b s h e)) is, is)
 
-pub read_is : (b : List ℕ) (s : Sender) → read_sender b ≡ some s → Settled s × (sender_in b ≡ laid_out s) × (b ≡ sender_f.enc s)
+pub read_is : (b : List ℕ) (s : Sender) → read_sender b ≡ Some s → Settled s × (sender_in b ≡ laid_out s) × (b ≡ sender_f.enc s)
 unfolding read_sender
 read_is b s e =
     let w = whole_enc sender_f_law b s e in

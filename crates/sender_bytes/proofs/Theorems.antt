@@ -1,11 +1,11 @@
 -- The theorems of specs/Calls.antt: what is proved of the definitions holds of calls over bytes, as each call reads and leaves a sender's bytes. Assumes nothing.
+use Rattle.std.specs.Prelude.{Some}
 use Prim.Native.Nat.{ℕ, ◌^◌, ◌≤◌}
 use native.Mathlib.Omega.{arith}
 use mathlib.Core.Path.{◌≡◌, refl, ap, ap₂, ◌∙◌}
 use mathlib.Core.Logic.{◌⊎◌, inl, inr}
 use mathlib.Core.Bool.{Bool, true, false}
 use mathlib.Core.List.{List, [], ◌∷◌, ◌++◌}
-use mathlib.Core.Option.{some}
 use lib.ListN.{length}
 use lib.Dec.{leb}
 use borrow.Author.Tests.{eq-eqb}
@@ -20,7 +20,7 @@ use Rattle.sender_turns.specs.Laid.{call_of, one_told}
 use Rattle.sender_turns.specs.declared.Call.{Call as CallStruct}
 use Rattle.sender_turns.proofs.Theorems.{fresh_settled, stays_settled, one_grant, settled_is_reached, fair_turns, order_kept_over}
 use Rattle.sender_turns.proofs.Numbered.{used_numbered, fresh_numbered}
-use Rattle.sender_bytes.specs.Bytes.{number_bytes, sender_length, sender_f, read_sender, Returned, refused, returned, used_bytes}
+use Rattle.sender_bytes.specs.Bytes.{grant_told, number_bytes, sender_length, sender_f, read_sender, Returned, refused, returned, used_bytes}
 use Rattle.sender_bytes.specs.Calls.{SendersExact, SendersLong, Called, uses_of, Linked, left, told, Answered, sender_by, EveryListOfCalls}
 use Rattle.sender_bytes.proofs.BytesLaws.{Fit, sender_f_law, sender_long as ok-long, ok_settled, ok_numbered, settled_ok}
 
@@ -60,7 +60,7 @@ stays_ok : (s : Sender) → sender_f.Ok s → (u : Use) → All Fit (carried u) 
 stays_ok s ok u g =
     settled_ok (sender_after s (used u s)) (stays_settled s (ok_settled s ok) u) (used_numbered (256 ^ number_bytes) s u (ok_numbered s ok) g)
 
-read_back : (s : Sender) → sender_f.Ok s → read_sender (sender_f.enc s) ≡ some s
+read_back : (s : Sender) → sender_f.Ok s → read_sender (sender_f.enc s) ≡ Some s
 unfolding read_sender
 read_back s ok = whole_dec sender_f_law (sender_f.enc s) s ok refl
 
@@ -85,7 +85,7 @@ unfolding told_in told_by returned refused one_told call_of when◌then◌else�
 grant_of b (Answer.Refused n) h = refl
 grant_of b (Answer.Done t) h = go t.grants h
   where
-    go : (l : List Call) → length l ≤ 1 → told_in (one_told l) ≡ l
+    go : (l : List Call) → length l ≤ 1 → told_in (grant_told (one_told l)) ≡ l
     go [] h = refl
     go (c ∷ []) h = refl
     go (c ∷ d ∷ l) h = absurd (omega arith)

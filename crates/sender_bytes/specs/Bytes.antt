@@ -1,7 +1,6 @@
 -- The bytes of a sender in a lent buffer, and what a use answers and leaves there, for all bytes. A lane is a count byte, its numbers and zeros; so are the
 -- calls out; the turn is a byte. Assumes nothing.
-use Rattle.std.specs.Prelude.{ℕ, ◌+◌, ◌*◌, ◌≡◌, List, [], Bool, length, leb, eqb}
-use Rattle.std.proofs.Math.Option.{Option}
+use Rattle.std.specs.Prelude.{ℕ, ◌+◌, ◌*◌, ◌≡◌, List, Bool, true, false, length, leb, eqb, Option, Some, None}
 use Rattle.format.specs.Format.{Format, All, concat_map, repeated, ◌⊗◌, via, below, such, whole_of}
 use Rattle.model.specs.Maps.{when◌then◌else◌, is_empty}
 use Rattle.model.specs.Machine.{match◌none:◌some:◌}
@@ -10,7 +9,7 @@ use Rattle.model.specs.Formats.{u64}
 use Rattle.model.specs.Layout.{table}
 use Rattle.sender_turns.specs.Sender.{Call, Sender, Use, Answer, mills, calls, lane_size, fresh, after, used}
 use Rattle.sender_turns.specs.Claims.{last_mill}
-use Rattle.sender_turns.specs.Laid.{one_told}
+use Rattle.sender_turns.specs.Laid.{no_call, one_told}
 use Rattle.sender_turns.specs.declared.Call.{Call as CallStruct}
 
 -- ---- widths
@@ -72,12 +71,16 @@ pub record Returned : Type 0 where
   -- the buffer as the use leaves it
   pub bytes : List ℕ
 
+abbrev pub grant_told : Option CallStruct → Bool × CallStruct
+grant_told None = (false, no_call)
+grant_told (Some call) = (true, call)
+
 unfoldable pub refused : ℕ → List ℕ → Returned
-refused n bytes = record { code = n; grant = one_told []; bytes = bytes }
+refused n bytes = record { code = n; grant = grant_told None; bytes = bytes }
 
 unfoldable pub returned : List ℕ → Answer → Returned
 returned bytes (Answer.Refused n) = refused n bytes
-returned bytes (Answer.Done t) = record { code = 0; grant = one_told t.grants; bytes = sender_f.enc t.sender }
+returned bytes (Answer.Done t) = record { code = 0; grant = grant_told (one_told t.grants); bytes = sender_f.enc t.sender }
 
 -- a use: refusal 1 for a wrong length, then 2 for bytes that are no sender's, then what the use of the sender answers. A refusal leaves the buffer as it was
 unfoldable pub used_bytes : Use → List ℕ → Returned

@@ -1,20 +1,18 @@
 -- Change request 11/13, over bytes: which bytes are a sender's, and what is claimed of lists of calls of enter, reply and resume from a fresh one. A call is
 -- known by what its function ensures, and by nothing else. Proved in proofs/Theorems.antt. Assumes nothing.
-use Rattle.std.specs.Prelude.{ℕ, ◌^◌, ◌≤◌, ◌<◌, ◌≡◌, ◌⊎◌, ◌↔◌, List, [], ◌∷◌, ◌++◌, map, length}
-use Rattle.std.proofs.Math.Option.{some}
+use Rattle.std.specs.Prelude.{ℕ, ◌^◌, ◌≤◌, ◌<◌, ◌≡◌, ◌⊎◌, ◌↔◌, List, [], ◌∷◌, ◌++◌, map, length, Some}
 use Rattle.format.specs.Format.{All}
 use Rattle.model.specs.Maps.{when◌then◌else◌}
 use Rattle.sender_turns.specs.Sender.{Call, Sender, Use, mills, fresh, lane, sender_over, told_over}
 use Rattle.sender_turns.specs.Claims.{Waits, NoResume, Within, numbers_of, entered_over, carried, Reached}
 use Rattle.sender_bytes.specs.Bytes.{number_bytes, sender_length, sender_f, read_sender}
-use Rattle.sender_bytes.specs.Read.{Uses}
-use Rattle.sender_bytes.specs.declared.Granted.{Granted}
+use Rattle.sender_bytes.specs.Read.{Granted, Uses}
 
 -- ---- which bytes are a sender's
 
 -- bytes are read as a sender exactly where uses of a fresh one lead to it and they are its bytes
 pub record SendersExact (b : List ℕ) (s : Sender) : Type 0 where
-  pub is : (read_sender b ≡ some s) ↔ (Reached (256 ^ number_bytes) s × (b ≡ sender_f.enc s))
+  pub is : (read_sender b ≡ Some s) ↔ (Reached (256 ^ number_bytes) s × (b ≡ sender_f.enc s))
 
 -- such senders have bytes of one length
 abbrev pub SendersLong : Type 0
@@ -64,7 +62,7 @@ pub record Meets (start : List ℕ) (before later : List Called) : Type 0 where
   pub tells : told later ≡ told_over (sender_by before) (uses_of later)
   pub leaves : left start before ≡ sender_f.enc (sender_by before)
   -- and they are read as that sender
-  pub reads : read_sender (left start before) ≡ some (sender_by before)
+  pub reads : read_sender (left start before) ≡ Some (sender_by before)
   -- no call finds a wrong length, or bytes that are no sender's
   pub answered : All Answered (before ++ later)
   -- a lane with a request waiting, and not emptied by its own mill's Resume, gets a grant within the next eight grants

@@ -1,6 +1,5 @@
 -- The struct that bytes stand for, whatever they are, and the bytes of a struct; and what the functions promise. Assumes nothing.
-use Rattle.std.specs.Prelude.{ℕ, zero, suc, ◌+◌, ◌*◌, ◌≡◌, List, [], ◌∷◌, ◌++◌, length, take, drop, get_or, eqb}
-use Rattle.std.proofs.Math.Option.{some}
+use Rattle.std.specs.Prelude.{ℕ, zero, suc, ◌+◌, ◌*◌, ◌≡◌, List, [], ◌∷◌, ◌++◌, length, take, drop, get_or, eqb, Bool, Option, Some, None, Result, Ok, Err, IfOk}
 use Rattle.format.specs.Format.{concat_map}
 use Rattle.model.specs.Maps.{when◌then◌else◌}
 use Rattle.model.specs.Machine.{match◌none:◌some:◌}
@@ -8,12 +7,13 @@ use Rattle.numbers.specs.Big.{from_be, to_be}
 use Rattle.sender_turns.specs.Sender.{Sender, Use, mills, calls, lane_size}
 use Rattle.sender_turns.specs.Claims.{Settled}
 use Rattle.sender_turns.specs.Laid.{laid_out}
+use Rattle.sender_turns.specs.Laid as turns
 use Rattle.sender_turns.specs.declared.Lane.{Lane}
 use Rattle.sender_turns.specs.declared.Call.{Call as CallStruct}
 use Rattle.sender_turns.specs.declared.Sender.{Sender as SenderStruct}
-use Rattle.sender_bytes.specs.Bytes.{number_bytes, call_bytes, lane_bytes, out_bytes, sender_length, read_sender, used_bytes}
-use Rattle.sender_bytes.specs.declared.Granted.{Granted}
-use Rattle.sender_bytes.specs.declared.Held.{Held}
+use Rattle.sender_bytes.specs.Bytes.{number_bytes, call_bytes, lane_bytes, out_bytes, sender_length, read_sender, grant_told, used_bytes}
+use Rattle.sender_bytes.specs.declared.Refusal.{Refusal}
+use Rattle.sender_bytes.specs.declared.Refusal.TheVariants.{WrongLength, NoSender, Use as UseOf}
 
 -- ---- bytes as a struct
 
@@ -66,9 +66,31 @@ pub record IsSender (x : SenderStruct) : Type 0 where
 unfoldable pub refusal : List ℕ → ℕ
 refusal b = when eqb (length b) sender_length then (match read_sender b none: 2 some: (λ s. 0)) else 1
 
-pub record HeldIn (b : List ℕ) (r : Held) : Type 0 where
-  pub is : r.code ≡ refusal b
-  pub sender : r.code ≡ 0 → (s : Sender) → read_sender b ≡ some s → r.sender ≡ laid_out s
+-- a refusal's number
+abbrev pub number_of : Refusal → ℕ
+number_of WrongLength = 1
+number_of NoSender = 2
+number_of (UseOf e) = turns.number_of e
+
+-- 0, or the refusal's number
+abbrev pub code_of : {A : Type 0} → Result A Refusal → ℕ
+code_of (Ok x) = 0
+code_of (Err e) = number_of e
+
+pub record HeldIn (b : List ℕ) (r : Result SenderStruct Refusal) : Type 0 where
+  pub is : code_of r ≡ refusal b
+  pub sender : IfOk r (λ x. (s : Sender) → read_sender b ≡ Some s → x ≡ laid_out s)
+
+-- what users of C are answered: 0 or the refusal's number; whether a call was granted, and the call; else zeros
+pub record Granted : Type 0 where
+  pub code : ℕ
+  pub granted : Bool
+  pub call : CallStruct
+
+-- a use's answer in these parts
+unfoldable pub granted_by : Result (Option CallStruct) Refusal → Granted
+granted_by (Ok grant) = record { code = 0; granted = (grant_told grant).0; call = (grant_told grant).1 }
+granted_by (Err e) = record { code = number_of e; granted = (grant_told None).0; call = (grant_told None).1 }
 
 -- a use over bytes
 pub record Uses (u : Use) (before after : List ℕ) (r : Granted) : Type 0 where

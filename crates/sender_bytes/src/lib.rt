@@ -6,126 +6,103 @@ mod places;
 mod read;
 mod write;
 
-ghost use Rattle.std.specs.Prelude.{◌≡◌, false, length};
+ghost use Rattle.std.specs.Prelude.{◌≡◌};
 ghost use Rattle.sender_turns.specs.Sender.{Use};
-ghost use Rattle.sender_turns.specs.Laid.{no_call};
-ghost use Rattle.sender_bytes.specs.Bytes.{freshened, sender_length};
-ghost use Rattle.sender_bytes.specs.Read.{IsSender, sender_out, HeldIn, Uses};
+ghost use Rattle.sender_bytes.specs.Bytes.{freshened};
+ghost use Rattle.sender_bytes.specs.Read.{number_of, code_of, granted_by, HeldIn, Uses};
+ghost use Rattle.sender_bytes.specs.declared.Refusal.TheVariants as refusal;
 
 pub use places::{CALL, LENGTH};
-use sender_turns::{Call, Sender, Told};
+use sender_turns::{Call, Sender};
 
-// A lent buffer's length is wrong.
-pub const WRONG_LENGTH: u8 = 1;
-
-// The bytes are no sender's.
-pub const NO_SENDER: u8 = 2;
-
-// What a use answers: 0 or the refusal; the call that was granted, if one was, else zeros.
-#[derive(Clone, Copy)]
-pub struct Granted {
-    pub code: u8,
-    pub granted: bool,
-    pub call: Call,
+// Why a lent buffer is not used.
+#[derive(Clone, Copy, PartialEq, Eq)]
+pub enum Refusal {
+    // its length is wrong
+    WrongLength,
+    // its bytes are no sender's
+    NoSender,
+    // the sender refuses the use
+    Use(sender_turns::Refusal),
 }
 
-// A sender, or why there is none.
-#[derive(Clone, Copy)]
-struct Held {
-    code: u8,
-    sender: Sender,
+impl From<sender_turns::Refusal> for Refusal {
+    ghost from_gives = { λ e r. r ≡ refusal.Use e };
+
+    fn from(why: sender_turns::Refusal) -> Refusal {
+        Refusal::Use(why)
+    }
+}
+
+impl From<Refusal> for u8 {
+    ghost from_gives = { λ e n. n ≡ number_of e };
+
+    fn from(e: Refusal) -> u8 {
+        match e {
+            Refusal::WrongLength => 1,
+            Refusal::NoSender => 2,
+            Refusal::Use(e) => u8::from(e),
+        }
+    }
 }
 
 // Makes the buffer a fresh sender.
-pub fn fresh(sender: &mut [u8]) -> u8
-    ensures { (result, sender.new) ≡ freshened sender.old }
+#[tactic(auto, using(crate::proofs::UseLaws::fresh_sender, crate::proofs::UseLaws::fresh_short, crate::proofs::UseLaws::fresh_made))]
+pub fn fresh(sender: &mut [u8]) -> Result<(), Refusal>
+    ensures { (code_of result, sender.new) ≡ freshened sender.old }
 {
-    if sender.len() != LENGTH {
-        return WRONG_LENGTH;
+    if sender.len() == LENGTH {
+        write::put_sender(sender, &Sender::fresh());
+        Ok(())
+    } else {
+        Err(Refusal::WrongLength)
     }
-    write::put_sender(sender, Sender::fresh());
-    0
 }
 
 // The sender whose bytes these are.
-fn sender_held(bytes: &[u8]) -> Held
+#[tactic(auto, using(crate::proofs::UseLaws::held_short, crate::proofs::UseLaws::held_no))]
+fn sender_held(bytes: &[u8]) -> Result<Sender, Refusal>
     ensures { HeldIn bytes.now result }
 {
     if bytes.len() != LENGTH {
-        let sender = Sender::fresh();
-        return Held {
-            code: WRONG_LENGTH,
-            sender,
-        };
+        return Err(Refusal::WrongLength);
     }
     let sender = read::sender_in(bytes);
-    if check::is_sender(sender) {
-        return Held { code: 0, sender };
+    if !check::is_sender(&sender) {
+        return Err(Refusal::NoSender);
     }
-    Held {
-        code: NO_SENDER,
-        sender,
-    }
-}
-
-fn refused(code: u8) -> Granted
-    ensures { result ≡ record { code = code; granted = false; call = no_call } }
-{
-    let call = Call { mill: 0, number: 0 };
-    Granted {
-        code,
-        granted: false,
-        call,
-    }
-}
-
-// The buffer becomes the sender that a use left; where the use was refused, that is the one it was.
-fn left(bytes: &mut [u8], told: Told) -> Granted
-    requires { (length bytes.old ≡ sender_length) × IsSender told.sender }
-    ensures { (bytes.new ≡ sender_out told.sender) × (result ≡ record { code = told.code; granted = told.granted; call = told.call }) }
-{
-    let call = told.call;
-    let sender = told.sender;
-    write::put_sender(bytes, sender);
-    Granted {
-        code: told.code,
-        granted: told.granted,
-        call,
-    }
+    Ok(sender)
 }
 
 // A request enters its mill's lane.
-pub fn enter(sender: &mut [u8], mill: u8, number: u64) -> Granted
-    ensures { Uses (Use.Enter mill number) sender.old sender.new result }
+#[tactic(auto, using(crate::proofs::UseLaws::uses_unheld, crate::proofs::UseLaws::numbered_low, crate::proofs::UseLaws::uses_refused))]
+pub fn enter(sender: &mut [u8], mill: u8, number: u64) -> Result<Option<Call>, Refusal>
+    ensures { Uses (Use.Enter mill number) sender.old sender.new (granted_by result) }
 {
-    let h = sender_held(sender);
-    if h.code != 0 {
-        return refused(h.code);
-    }
-    let s = h.sender;
-    left(sender, s.enter(mill, number))
+    let mut held = sender_held(sender)?;
+    let granted = held.enter(mill, number)?;
+    write::put_sender(sender, &held);
+    Ok(granted)
 }
 
 // The reply to a call has come.
-pub fn reply(sender: &mut [u8], mill: u8, number: u64) -> Granted
-    ensures { Uses (Use.Reply mill number) sender.old sender.new result }
+#[tactic(auto, using(crate::proofs::UseLaws::uses_unheld, crate::proofs::UseLaws::numbered_low, crate::proofs::UseLaws::uses_refused))]
+pub fn reply(sender: &mut [u8], mill: u8, number: u64) -> Result<Option<Call>, Refusal>
+    ensures { Uses (Use.Reply mill number) sender.old sender.new (granted_by result) }
 {
-    let h = sender_held(sender);
-    if h.code != 0 {
-        return refused(h.code);
-    }
-    let s = h.sender;
-    left(sender, s.reply(mill, number))
+    let mut held = sender_held(sender)?;
+    let granted = held.reply(mill, number)?;
+    write::put_sender(sender, &held);
+    Ok(granted)
 }
 
 // The mill starts anew: its lane is emptied.
-pub fn resume(sender: &mut [u8], mill: u8) -> Granted
-    ensures { Uses (Use.Resume mill) sender.old sender.new result }
+#[tactic(auto, using(crate::proofs::UseLaws::uses_unheld, crate::proofs::UseLaws::numbered_low, crate::proofs::UseLaws::uses_refused))]
+pub fn resume(sender: &mut [u8], mill: u8) -> Result<Option<Call>, Refusal>
+    ensures { Uses (Use.Resume mill) sender.old sender.new (granted_by result) }
 {
-    let h = sender_held(sender);
-    if h.code != 0 {
-        return refused(h.code);
-    }
-    let s = h.sender;
-    left(sender, s.resume(mill))
+    let mut held = sender_held(sender)?;
+    let granted = held.resume(mill)?;
+    write::put_sender(sender, &held);
+    Ok(granted)
 }

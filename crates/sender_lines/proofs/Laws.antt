@@ -1,10 +1,9 @@
 -- Laws of a use's frame and of the answer's text: each law's premises are what the callees ensure. Assumes nothing.
+use Rattle.std.specs.Prelude.{Option, Some, None, Result, Ok, Err}
 use Prim.Native.Nat.{ℕ, suc, ◌+◌, ◌^◌, ◌≤◌, ◌<◌}
 use native.Mathlib.Omega.{arith}
 use mathlib.Core.Path.{◌≡◌, refl, sym, ap, ◌∙◌}
-use mathlib.Core.Bool.{Bool, true, false}
 use mathlib.Core.List.{List, [], ◌∷◌, ◌++◌, append-nil}
-use mathlib.Core.Option.{Option, none, some}
 use mathlib.Core.Logic.{inl, inr}
 use lib.ListN.{length, take, drop, get_or, length-append}
 use lib.Seq.{take_all}
@@ -19,13 +18,14 @@ use Rattle.numbers.specs.Big.{from_be, to_be}
 use Rattle.numbers.proofs.Laws.{Bytes, from_bound, to_from}
 use Rattle.sender_bytes.proofs.StructLaws.{to_digits}
 use Rattle.sender_turns.specs.Sender.{Use}
-use Rattle.sender_turns.specs.Laid.{no_call, one_told}
 use Rattle.sender_turns.specs.declared.Call.{Call as CallStruct}
-use Rattle.sender_bytes.specs.Bytes.{number_bytes, call_bytes, Returned, refused}
-use Rattle.sender_bytes.specs.Read.{Uses}
-use Rattle.sender_bytes.specs.declared.Granted.{Granted}
+use Rattle.sender_bytes.specs.Bytes.{number_bytes, call_bytes, Returned, grant_told, refused}
+use Rattle.sender_bytes.specs.Read.{granted_by, Uses}
+use Rattle.sender_bytes.specs.declared.Refusal.{Refusal as BytesRefusal}
 use Rattle.sender_lines.specs.Answers.{UseCases, use_to, use_from, mill_f, use_f, answered, line, grant_text, reply, after_line}
-use Rattle.sender_lines.specs.Promises.{Takes, text_bytes, Replies}
+use Rattle.sender_lines.specs.Promises.{number_of, code_of, grant_of, Takes, text_bytes, Replies}
+use Rattle.sender_lines.specs.declared.Refusal.{Refusal}
+use Rattle.sender_lines.specs.declared.Refusal.TheVariants.{NoUse, Use as UseOf}
 
 -- ---- a use's frame
 
@@ -47,12 +47,12 @@ use_f_law =
     via_law (enum_law (case_law call (case_law call (case_law (below_law 256) no_case_law)))) use_to use_from use_there (λ c ok. use_back c)
 
 -- bytes that are no use's are no use
-no_use : (s : List ℕ) → ((u : Use) → s ≡ use_f.enc u → ⊥) → none ≡ whole_of use_f s
+no_use : (s : List ℕ) → ((u : Use) → s ≡ use_f.enc u → ⊥) → None ≡ whole_of use_f s
 no_use s n = go (whole_of use_f s) refl
   where
-    go : (o : Option Use) → whole_of use_f s ≡ o → none ≡ whole_of use_f s
-    go none e = sym e
-    go (some u) e = absurd (n u (whole_enc use_f_law s u e).1)
+    go : (o : Option Use) → whole_of use_f s ≡ o → None ≡ whole_of use_f s
+    go None e = sym e
+    go (Some u) e = absurd (n u (whole_enc use_f_law s u e).1)
 
 module _ (s : List ℕ) where
   wrong_length : (length s ≡ 1 + call_bytes → ⊥) → (length s ≡ 2 → ⊥) → (u : Use) → s ≡ use_f.enc u → ⊥
@@ -61,7 +61,7 @@ module _ (s : List ℕ) where
   wrong_length call mill (Use.Reply m n) e = call (ap length e)
   wrong_length call mill (Use.Resume m) e = mill (ap length e)
 
-  pub neither : (length s ≡ 1 + call_bytes → ⊥) → (length s ≡ 2 → ⊥) → none ≡ whole_of use_f s
+  pub neither : (length s ≡ 1 + call_bytes → ⊥) → (length s ≡ 2 → ⊥) → None ≡ whole_of use_f s
   neither call mill = no_use s (wrong_length call mill)
 
   wrong_call : length s ≡ 1 + call_bytes → (get_or s 0 0 ≡ 0 → ⊥) → (get_or s 0 0 ≡ 1 → ⊥) → (u : Use) → s ≡ use_f.enc u → ⊥
@@ -70,7 +70,7 @@ module _ (s : List ℕ) where
   wrong_call l enter reply (Use.Reply m n) e = reply (ap (λ (b : List ℕ). get_or b 0 0) e)
   wrong_call l enter reply (Use.Resume m) e = let k : length s ≡ 2 = ap length e in omega arith
 
-  pub other_call : length s ≡ 1 + call_bytes → (get_or s 0 0 ≡ 0 → ⊥) → (get_or s 0 0 ≡ 1 → ⊥) → none ≡ whole_of use_f s
+  pub other_call : length s ≡ 1 + call_bytes → (get_or s 0 0 ≡ 0 → ⊥) → (get_or s 0 0 ≡ 1 → ⊥) → None ≡ whole_of use_f s
   other_call l enter reply = no_use s (wrong_call l enter reply)
 
   wrong_mill : length s ≡ 2 → (get_or s 0 0 ≡ 2 → ⊥) → (u : Use) → s ≡ use_f.enc u → ⊥
@@ -79,7 +79,7 @@ module _ (s : List ℕ) where
   wrong_mill l resume (Use.Reply m n) e = let k : length s ≡ 1 + call_bytes = ap length e in omega arith
   wrong_mill l resume (Use.Resume m) e = resume (ap (λ (b : List ℕ). get_or b 0 0) e)
 
-  pub other_mill : length s ≡ 2 → (get_or s 0 0 ≡ 2 → ⊥) → none ≡ whole_of use_f s
+  pub other_mill : length s ≡ 2 → (get_or s 0 0 ≡ 2 → ⊥) → None ≡ whole_of use_f s
   other_mill l resume = no_use s (wrong_mill l resume)
 
 -- ---- the number of eight bytes
@@ -97,7 +97,7 @@ call_ok case mill s l b n e =
     let f : n ≡ from_be 0 s = e ∙ ap (from_be 0) (take_all number_bytes s (omega arith)) in
     rw f (number_small s l b, ap (λ (t : List ℕ). case ∷ mill ∷ t) (sym (number_read s l b)))
 
-pub enters : (s : List ℕ) (n : ℕ) → length s ≡ 1 + call_bytes → Bytes s → n ≡ from_be 0 (take number_bytes (drop 2 s)) → get_or s 0 0 ≡ 0 → some (Use.Enter (get_or s 1 0) n) ≡ whole_of use_f s
+pub enters : (s : List ℕ) (n : ℕ) → length s ≡ 1 + call_bytes → Bytes s → n ≡ from_be 0 (take number_bytes (drop 2 s)) → get_or s 0 0 ≡ 0 → Some (Use.Enter (get_or s 1 0) n) ≡ whole_of use_f s
 unfolding use_f mill_f via enum ◌∣◌ ◌⊗◌ below number
 enters [] n l b e f = absurd (omega arith)
 enters (x ∷ []) n l b e f = absurd (omega arith)
@@ -105,7 +105,7 @@ enters (x ∷ mill ∷ s) n l b e f =
     let c = call_ok x mill s (omega arith) (λ i. b (suc (suc i))) n e in
     sym (whole_dec use_f_law (x ∷ mill ∷ s) (Use.Enter mill n) (b 1, c.0) (c.1 ∙ ap (λ (k : ℕ). k ∷ mill ∷ big_endian number_bytes n) f))
 
-pub replies : (s : List ℕ) (n : ℕ) → length s ≡ 1 + call_bytes → Bytes s → n ≡ from_be 0 (take number_bytes (drop 2 s)) → get_or s 0 0 ≡ 1 → some (Use.Reply (get_or s 1 0) n) ≡ whole_of use_f s
+pub replies : (s : List ℕ) (n : ℕ) → length s ≡ 1 + call_bytes → Bytes s → n ≡ from_be 0 (take number_bytes (drop 2 s)) → get_or s 0 0 ≡ 1 → Some (Use.Reply (get_or s 1 0) n) ≡ whole_of use_f s
 unfolding use_f mill_f via enum ◌∣◌ ◌⊗◌ below number
 replies [] n l b e f = absurd (omega arith)
 replies (x ∷ []) n l b e f = absurd (omega arith)
@@ -113,7 +113,7 @@ replies (x ∷ mill ∷ s) n l b e f =
     let c = call_ok x mill s (omega arith) (λ i. b (suc (suc i))) n e in
     sym (whole_dec use_f_law (x ∷ mill ∷ s) (Use.Reply mill n) (b 1, c.0) (c.1 ∙ ap (λ (k : ℕ). k ∷ mill ∷ big_endian number_bytes n) f))
 
-pub resumes : (s : List ℕ) → length s ≡ 2 → Bytes s → get_or s 0 0 ≡ 2 → some (Use.Resume (get_or s 1 0)) ≡ whole_of use_f s
+pub resumes : (s : List ℕ) → length s ≡ 2 → Bytes s → get_or s 0 0 ≡ 2 → Some (Use.Resume (get_or s 1 0)) ≡ whole_of use_f s
 unfolding use_f mill_f via enum ◌∣◌ ◌⊗◌ below number
 resumes [] l b e = absurd (omega arith)
 resumes (x ∷ []) l b e = absurd (omega arith)
@@ -138,40 +138,51 @@ puts_call mill n s e P =
     let f : s ≡ mill ∷ big_endian number_bytes n = e ∙ ap (λ (t : List ℕ). mill ∷ t) (append-nil (to_be number_bytes n) ∙ to_digits number_bytes n) in
     rw f at P
 
-module _ (code : ℕ) (call : CallStruct) (text text' : List ℕ) (r : ℕ) (room : text_bytes ≤ length text) (same : length text' ≡ length text) where
-  pub tells_grant : (mid : List ℕ) (at : ℕ) (granted : Bool) → granted ≡ true → Puts (line (code ∷ 0 ∷ 1 ∷ [])) text mid 0 at → Puts (line (call.mill ∷ u64.enc call.number)) mid text' at r
-      → (r ≤ length text') × (take r text' ≡ grant_text code (granted, call))
+module _ (text text' : List ℕ) (r : ℕ) (room : text_bytes ≤ length text) (same : length text' ≡ length text) where
+  pub tells_grant : (told : Result (Option CallStruct) Refusal) (granted : Option CallStruct) (call : CallStruct) (mid : List ℕ) (at : ℕ) → told ≡ Ok granted → granted ≡ Some call → Puts (line (0 ∷ 0 ∷ 1 ∷ [])) text mid 0 at → Puts (line (call.mill ∷ u64.enc call.number)) mid text' at r
+      → (r ≤ length text') × (take r text' ≡ grant_text (code_of told) (grant_told (grant_of told)))
   unfolding grant_text number
-  tells_grant mid at true g P Q =
-      let h = line_long (code ∷ 0 ∷ 1 ∷ []) in
+  tells_grant told granted call mid at e f P Q =
+      let h = line_long (0 ∷ 0 ∷ 1 ∷ []) in
       let k = line_long (call.mill ∷ big_endian number_bytes call.number) in
       let p = P.place in
       let q = Q.place in
-      let l = length-append (line (code ∷ 0 ∷ 1 ∷ [])) (line (call.mill ∷ big_endian number_bytes call.number)) in
-      (omega arith, puts_taken (puts_then P Q (omega arith)) (omega arith))
-  tells_grant mid at false g P Q = absurd (let z : ◌≡◌ {A = ℕ} 0 1 = cc in omega arith)
+      let l = length-append (line (0 ∷ 0 ∷ 1 ∷ [])) (line (call.mill ∷ big_endian number_bytes call.number)) in
+      rw (e, f) (omega arith, puts_taken (puts_then P Q (omega arith)) (omega arith))
 
-  pub tells_none : (granted : Bool) → granted ≡ false → Puts (line (code ∷ 0 ∷ 0 ∷ [])) text text' 0 r → (r ≤ length text') × (take r text' ≡ grant_text code (granted, call))
+  tells : (code : ℕ) → Puts (line (code ∷ 0 ∷ 0 ∷ [])) text text' 0 r → (r ≤ length text') × (take r text' ≡ grant_text code (grant_told None))
   unfolding grant_text
-  tells_none false g P =
+  tells code P =
       let h = line_long (code ∷ 0 ∷ 0 ∷ []) in
       let p = P.place in
       (omega arith, puts_taken P (omega arith))
-  tells_none true g P = absurd (let z : ◌≡◌ {A = ℕ} 0 1 = cc in omega arith)
+
+  pub tells_none : (told : Result (Option CallStruct) Refusal) (granted : Option CallStruct) → told ≡ Ok granted → granted ≡ None → Puts (line (0 ∷ 0 ∷ 0 ∷ [])) text text' 0 r
+      → (r ≤ length text') × (take r text' ≡ grant_text (code_of told) (grant_told (grant_of told)))
+  tells_none told granted e f P = rw (e, f) (tells 0 P)
+
+  pub tells_refusal : (told : Result (Option CallStruct) Refusal) (why : Refusal) (code : ℕ) → told ≡ Err why → code ≡ number_of why → Puts (line (code ∷ 0 ∷ 0 ∷ [])) text text' 0 r
+      → (r ≤ length text') × (take r text' ≡ grant_text (code_of told) (grant_told (grant_of told)))
+  tells_refusal told why code e f P = rw (e, ← f) (tells code P)
 
 -- ---- a line
 
-module _ {frame : List ℕ} {asked : Option Use} (e : asked ≡ whole_of use_f frame) {sender : List ℕ} {r : Granted} where
-  pub takes : {u : Use} {sender' : List ℕ} → asked ≡ some u → Uses u sender sender' r → Takes frame sender sender' r
-  unfolding answered match◌none:◌some:◌
-  takes f U = record { is = rw (← e, f) U.is }
+module _ (frame sender : List ℕ) where
+  pub takes_none : None ≡ whole_of use_f frame → Takes frame sender sender (Err NoUse)
+  unfolding answered match◌none:◌some:◌ refused
+  takes_none e = record { is = rw (← e) }
 
-  pub takes_none : asked ≡ none → r ≡ record { code = 3; granted = false; call = no_call } → Takes frame sender sender r
-  unfolding answered match◌none:◌some:◌ refused one_told
-  takes_none f g = record { is = rw (← e, f, g) }
+  pub takes_done : (u : Use) (sender' : List ℕ) (granted : Option CallStruct) → Some u ≡ whole_of use_f frame → Uses u sender sender' (granted_by (Ok granted)) → Takes frame sender sender' (Ok granted)
+  unfolding answered match◌none:◌some:◌ granted_by
+  takes_done u sender' granted e U = record { is = rw (← e) U.is }
 
-pub answers : {line sender sender' frame text' : List ℕ} {n : ℕ} {r : Granted} → frame ≡ frame_of line → Takes frame sender sender' r
-    → (n ≤ length text') × (take n text' ≡ grant_text r.code (r.granted, r.call)) → Replies line sender sender' text' n
+  pub takes_refused : (u : Use) (sender' : List ℕ) (e : BytesRefusal) (r : Result (Option CallStruct) Refusal) → Some u ≡ whole_of use_f frame → Uses u sender sender' (granted_by (Err e)) → r ≡ Err (UseOf e)
+      → Takes frame sender sender' r
+  unfolding answered match◌none:◌some:◌ granted_by
+  takes_refused u sender' e r f U g = record { is = rw (← f, g) U.is }
+
+pub answers : {line sender sender' frame text' : List ℕ} {n : ℕ} {r : Result (Option CallStruct) Refusal} → frame ≡ frame_of line → Takes frame sender sender' r
+    → (n ≤ length text') × (take n text' ≡ grant_text (code_of r) (grant_told (grant_of r))) → Replies line sender sender' text' n
 unfolding reply after_line
 answers {sender = sender} e T h =
     let g = T.is ∙ ap (answered sender) e in

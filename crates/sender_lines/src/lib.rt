@@ -1,16 +1,16 @@
 // A use of the sender as a line of hexadecimal digits, and its answer: one byte (0 or the refusal), two bytes that count grants; then a line for the grant.
 #![tactic(auto)]
 
-ghost use Rattle.std.specs.Prelude.{◌≡◌, false, ◌∷◌, ◌+◌, ◌≤◌, length, take};
+ghost use Rattle.std.specs.Prelude.{◌≡◌, ◌∷◌, ◌+◌, ◌≤◌, length, take, option_map};
 ghost use Rattle.format.specs.Format.{whole_of};
 ghost use Rattle.lines.specs.Lines.{max_frame, Puts};
 ghost use Rattle.model.specs.Formats.{u64};
-ghost use Rattle.sender_turns.specs.Laid.{no_call};
-ghost use Rattle.sender_bytes.specs.Bytes.{call_bytes};
+ghost use Rattle.sender_bytes.specs.Bytes.{call_bytes, grant_told};
 ghost use Rattle.sender_lines.specs.Answers.{use_f, line, grant_text};
-ghost use Rattle.sender_lines.specs.Promises.{meant_use, Takes, text_bytes, Replies};
+ghost use Rattle.sender_lines.specs.Promises.{meant, number_of, code_of, grant_of, Takes, text_bytes, Replies};
+ghost use Rattle.sender_lines.specs.declared.Refusal.TheVariants as refusal;
 
-use sender_bytes::{CALL, Granted};
+use sender_bytes::CALL;
 use sender_turns::Call;
 
 // The bytes of an answer's own line.
@@ -18,9 +18,6 @@ const HEAD: usize = 3;
 
 // The longest answer: its own line and a call's, two digits a byte and a line feed each.
 pub const TEXT: usize = HEAD + HEAD + 1 + CALL + CALL + 1;
-
-// A line that is no use.
-const NO_USE: u8 = 3;
 
 // The cases of a use, by their place.
 const ENTER: u8 = 0;
@@ -39,66 +36,81 @@ const OF_A_CALL: usize = 1 + CALL;
 
 const OF_A_MILL: usize = 2;
 
+// Why a line is not done.
+#[derive(Clone, Copy, PartialEq, Eq)]
+enum Refusal {
+    // it is no use
+    NoUse,
+    // the use is refused
+    Use(sender_bytes::Refusal),
+}
+
+impl From<sender_bytes::Refusal> for Refusal {
+    ghost from_gives = { λ e r. r ≡ refusal.Use e };
+
+    fn from(why: sender_bytes::Refusal) -> Refusal {
+        Refusal::Use(why)
+    }
+}
+
+impl From<Refusal> for u8 {
+    ghost from_gives = { λ e n. n ≡ number_of e };
+
+    fn from(e: Refusal) -> u8 {
+        match e {
+            Refusal::NoUse => 3,
+            Refusal::Use(e) => u8::from(e),
+        }
+    }
+}
+
 // What a frame asks for.
 #[derive(Clone, Copy)]
-enum Asked {
+enum Use {
     Enter(u8, u64),
     Reply(u8, u64),
     Resume(u8),
-    Nothing,
 }
 
 // A use of a call, by its case.
-fn of_a_call(frame: &[u8]) -> Asked
+#[tactic(auto, using(crate::proofs::Laws::enters, crate::proofs::Laws::replies, crate::proofs::Laws::other_call))]
+fn of_a_call(frame: &[u8]) -> Option<Use>
     requires { length frame.now ≡ 1 + call_bytes }
-    ensures { meant_use result ≡ whole_of use_f frame.now }
+    ensures { option_map meant result ≡ whole_of use_f frame.now }
 {
-    let case = frame[0];
     let mill = frame[MILL];
     let number = numbers::get_be(frame, NUMBER);
-    match case {
-        ENTER => Asked::Enter(mill, number),
-        REPLY => Asked::Reply(mill, number),
-        _ => Asked::Nothing,
+    match frame[0] {
+        ENTER => Some(Use::Enter(mill, number)),
+        REPLY => Some(Use::Reply(mill, number)),
+        _ => None,
     }
 }
 
-fn use_in(frame: &[u8]) -> Asked
-    ensures { meant_use result ≡ whole_of use_f frame.now }
+#[tactic(auto, using(crate::proofs::Laws::resumes, crate::proofs::Laws::neither, crate::proofs::Laws::other_mill))]
+fn use_in(frame: &[u8]) -> Option<Use>
+    ensures { option_map meant result ≡ whole_of use_f frame.now }
 {
-    if frame.len() == OF_A_CALL {
-        return of_a_call(frame);
-    }
-    if frame.len() != OF_A_MILL {
-        return Asked::Nothing;
-    }
-    if frame[0] == RESUME {
-        return Asked::Resume(frame[MILL]);
-    }
-    Asked::Nothing
-}
-
-fn no_use() -> Granted
-    ensures { result ≡ record { code = 3; granted = false; call = no_call } }
-{
-    let call = Call { mill: 0, number: 0 };
-    Granted {
-        code: NO_USE,
-        granted: false,
-        call,
+    match frame.len() {
+        OF_A_CALL => of_a_call(frame),
+        OF_A_MILL if frame[0] == RESUME => Some(Use::Resume(frame[MILL])),
+        _ => None,
     }
 }
 
-fn take_use(sender: &mut [u8], frame: &[u8]) -> Granted
+#[tactic(auto, using(crate::proofs::Laws::takes_none))]
+fn take_use(sender: &mut [u8], frame: &[u8]) -> Result<Option<Call>, Refusal>
     ensures { Takes frame.now sender.old sender.new result }
 {
-    let asked = use_in(frame);
-    match asked {
-        Asked::Enter(mill, number) => sender_bytes::enter(sender, mill, number),
-        Asked::Reply(mill, number) => sender_bytes::reply(sender, mill, number),
-        Asked::Resume(mill) => sender_bytes::resume(sender, mill),
-        Asked::Nothing => no_use(),
-    }
+    let Some(asked) = use_in(frame) else {
+        return Err(Refusal::NoUse);
+    };
+    let granted = match asked {
+        Use::Enter(mill, number) => sender_bytes::enter(sender, mill, number)?,
+        Use::Reply(mill, number) => sender_bytes::reply(sender, mill, number)?,
+        Use::Resume(mill) => sender_bytes::resume(sender, mill)?,
+    };
+    Ok(granted)
 }
 
 fn put_call(text: &mut [u8], at: usize, call: Call) -> usize
@@ -111,18 +123,18 @@ fn put_call(text: &mut [u8], at: usize, call: Call) -> usize
     lines::put_line(text, at, &bytes)
 }
 
-fn put_answer(text: &mut [u8], granted: Granted) -> usize
+fn put_answer(text: &mut [u8], told: Result<Option<Call>, Refusal>) -> usize
     requires { text_bytes ≤ length text.old }
-    ensures { (result ≤ length text.new) × (take result text.new ≡ grant_text granted.code (granted.granted, granted.call)) }
+    ensures { (result ≤ length text.new) × (take result text.new ≡ grant_text (code_of told) (grant_told (grant_of told))) }
 {
-    if granted.granted {
-        let head: [u8; HEAD] = [granted.code, 0, 1];
-        let at = lines::put_line(text, 0, &head);
-        let call = granted.call;
-        return put_call(text, at, call);
+    match told {
+        Ok(Some(call)) => {
+            let at = lines::put_line(text, 0, &[0, 0, 1]);
+            put_call(text, at, call)
+        }
+        Ok(None) => lines::put_line(text, 0, &[0, 0, 0]),
+        Err(e) => lines::put_line(text, 0, &[u8::from(e), 0, 0]),
     }
-    let head: [u8; HEAD] = [granted.code, 0, 0];
-    lines::put_line(text, 0, &head)
 }
 
 // Answers a line: the sender goes on, and the answer stands at the start of `text`.
@@ -131,6 +143,6 @@ pub fn answer_line(sender: &mut [u8], frame: &mut [u8], line: &[u8], text: &mut 
     ensures { Replies line.now sender.old sender.new text.new result }
 {
     let n = lines::frame_of(line, frame);
-    let granted = take_use(sender, &frame[..n]);
-    put_answer(text, granted)
+    let told = take_use(sender, &frame[..n]);
+    put_answer(text, told)
 }

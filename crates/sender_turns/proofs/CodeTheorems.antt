@@ -1,4 +1,5 @@
 -- What is proved of the definitions holds of lists of uses of the code: each answer is the definitions'. Assumes nothing.
+use Rattle.std.specs.Prelude.{Option, Some, None, Result, Ok, Err}
 use Prim.Native.Nat.{ℕ, ◌-◌, ◌≤◌, ◌<◌}
 use native.Mathlib.Omega.{arith}
 use mathlib.Core.Path.{◌≡◌, refl, ap, ap₂, ◌∙◌}
@@ -10,11 +11,12 @@ use lib.Dec.{leb, T}
 use Rattle.model.specs.Maps.{when◌then◌else◌, is_empty}
 use Rattle.sender_turns.specs.Sender.{Call, Sender, Use, Answer, mills, calls, lane_size, fresh, lane, grant_all, with_lane, mill_of, take_use, used, sender_after, told_by, sender_over, told_over}
 use Rattle.sender_turns.specs.Claims.{Waits, entered, entered_over, Settled}
-use Rattle.sender_turns.specs.Laid.{lane_of, call_of, laid_out, one_told, answering, told_as}
-use Rattle.sender_turns.specs.Uses.{Used, uses_of, Linked, left, told, count_in, waiting_in, entered_by, entered_in, EveryListOfUses}
+use Rattle.sender_turns.specs.Laid.{lane_of, call_of, laid_out, numbered, one_told, told_as, Says}
+use Rattle.sender_turns.specs.Uses.{Used, uses_of, Linked, left, told_in, told, count_in, waiting_in, entered_by, entered_in, EveryListOfUses}
 use Rattle.sender_turns.specs.declared.Lane.{Lane}
 use Rattle.sender_turns.specs.declared.Sender.{Sender as SenderStruct}
-use Rattle.sender_turns.specs.declared.Told.{Told as ToldStruct}
+use Rattle.sender_turns.specs.declared.Call.{Call as CallStruct}
+use Rattle.sender_turns.specs.declared.Refusal.{Refusal}
 use Rattle.sender_turns.proofs.Settled.{fresh_settled, stays_settled, over_settled, one_grant, granted_at_once}
 use Rattle.sender_turns.proofs.Fair.{fair_turns}
 use Rattle.sender_turns.proofs.Order.{order_kept_over}
@@ -38,55 +40,47 @@ waiting_is mill s =
 
 -- ---- an answer as the code gives it
 
-as_sender : (s : Sender) (a : Answer) → (told_as s a).sender ≡ laid_out (sender_after s a)
-unfolding told_as sender_after answering
-as_sender s (Answer.Refused n) = refl
-as_sender s (Answer.Done t) = refl
-
--- the grant that an answer tells
-told_in : ToldStruct → List Call
-told_in r = when r.granted then (r.call.mill, r.call.number) ∷ [] else []
-
 -- an answer tells one grant, and a use has no more
-as_told : (s : Sender) (a : Answer) → length (told_by a) ≤ 1 → told_in (told_as s a) ≡ told_by a
-unfolding told_in told_as told_by answering one_told call_of when◌then◌else◌
-as_told s (Answer.Refused n) h = refl
-as_told s (Answer.Done t) h = go t.grants h
+as_told : (r : Result (Option CallStruct) Refusal) (a : Answer) → numbered r ≡ told_as a → length (told_by a) ≤ 1 → told_in r ≡ told_by a
+unfolding told_in told_as told_by one_told call_of
+as_told r (Answer.Refused n) e h = go r e
   where
-    go : (l : List Call) → length l ≤ 1 → (when (one_told l).0 then ((one_told l).1.mill, (one_told l).1.number) ∷ [] else []) ≡ l
-    go [] h = refl
-    go (c ∷ []) h = refl
-    go (c ∷ d ∷ l) h = absurd (omega arith)
-
--- a refusal is not 0
-as_entered : (mill : ℕ) (u : Use) (s : Sender) → entered_by mill u (told_as s (used u s)).code ≡ entered mill u (used u s)
-unfolding entered_by entered told_as answering used take_use mill_of when◌then◌else◌
-as_entered mill (Use.Reply m n) s = refl
-as_entered mill (Use.Resume m) s = refl
-as_entered mill (Use.Enter m n) s = go (leb mills m) (leb lane_size (length (lane m s.lanes)))
+    go : (r : Result (Option CallStruct) Refusal) → numbered r ≡ Err n → told_in r ≡ []
+    go (Ok granted) e = cc
+    go (Err x) e = refl
+as_told r (Answer.Done t) e h = go r t.grants e h
   where
-    Same : Answer → Type 0
-    Same a = entered_by mill (Use.Enter m n) (told_as s a).code ≡ entered mill (Use.Enter m n) a
+    go : (r : Result (Option CallStruct) Refusal) (l : List Call) → numbered r ≡ Ok (one_told l) → length l ≤ 1 → told_in r ≡ l
+    go (Ok None) [] e h = refl
+    go (Ok None) (c ∷ l) e h = cc
+    go (Ok (Some call)) [] e h = cc
+    go (Ok (Some call)) (c ∷ []) e h =
+        let f : call ≡ call_of c = cc in
+        rw f
+    go (Ok (Some call)) (c ∷ d ∷ l) e h = absurd (omega arith)
+    go (Err x) l e h = cc
 
-    go : (b c : Bool) → Same (when b then Answer.Refused 11 else when c then Answer.Refused 12 else Answer.Done (grant_all (with_lane m (lane m s.lanes ++ n ∷ []) s)))
-    go true c = refl
-    go false true = refl
-    go false false = refl
+-- what entered
+as_entered : (mill : ℕ) (u : Use) (r : Result (Option CallStruct) Refusal) (a : Answer) → numbered r ≡ told_as a → entered_by mill u r ≡ entered mill u a
+unfolding entered_by entered told_as when◌then◌else◌
+as_entered mill (Use.Reply m n) r a e = refl
+as_entered mill (Use.Resume m) r a e = refl
+as_entered mill (Use.Enter m n) (Ok granted) (Answer.Done t) e = refl
+as_entered mill (Use.Enter m n) (Err x) (Answer.Refused k) e = refl
+as_entered mill (Use.Enter m n) (Ok granted) (Answer.Refused k) e = cc
+as_entered mill (Use.Enter m n) (Err x) (Answer.Done t) e = cc
 
 -- ---- a use, and lists of uses
 
 module _ (s : Sender) (w : Settled s) (u : Used) (e : u.sender ≡ laid_out s) where
-  use_is : u.answer ≡ told_as s (used u.asked s)
+  use_is : Says s (used u.asked s) u.after u.answer
   use_is = u.is.is s w e
 
-  use_leaves : u.answer.sender ≡ laid_out (sender_after s (used u.asked s))
-  use_leaves = rw use_is (as_sender s (used u.asked s))
-
   use_tells : told_in u.answer ≡ told_by (used u.asked s)
-  use_tells = rw use_is (as_told s (used u.asked s) (one_grant s w u.asked))
+  use_tells = as_told u.answer (used u.asked s) use_is.told (one_grant s w u.asked)
 
-  use_enters : (mill : ℕ) → entered_by mill u.asked u.answer.code ≡ entered mill u.asked (used u.asked s)
-  use_enters mill = rw use_is (as_entered mill u.asked s)
+  use_enters : (mill : ℕ) → entered_by mill u.asked u.answer ≡ entered mill u.asked (used u.asked s)
+  use_enters mill = as_entered mill u.asked u.answer (used u.asked s) use_is.told
 
 record Same (s : Sender) (start : SenderStruct) (l : List Used) : Type 0 where
   leaves : left start l ≡ laid_out (sender_over s (uses_of l))
@@ -94,11 +88,11 @@ record Same (s : Sender) (start : SenderStruct) (l : List Used) : Type 0 where
   enters : (mill : ℕ) → entered_in mill l ≡ entered_over mill s (uses_of l)
 
 same : (l : List Used) (s : Sender) (start : SenderStruct) → Settled s → start ≡ laid_out s → Linked start l → Same s start l
-unfolding Linked left told entered_in sender_over told_over entered_over told_in
+unfolding Linked left told entered_in sender_over told_over entered_over
 same [] s start w e k = record { leaves = e; tells = refl; enters = λ mill. refl }
 same (u ∷ l) s start w e k =
     let here : u.sender ≡ laid_out s = k.0 ∙ e in
-    let later = same l (sender_after s (used u.asked s)) u.answer.sender (stays_settled s w u.asked) (use_leaves s w u here) k.1 in
+    let later = same l (sender_after s (used u.asked s)) u.after (stays_settled s w u.asked) (use_is s w u here).leaves k.1 in
     record {
       leaves = later.leaves;
       tells = ap₂ (λ (a b : List Call). a ++ b) (use_tells s w u here) later.tells;
@@ -114,7 +108,7 @@ waits_is mill s n = go (lane mill s.lanes) (λ e. n (count_is mill s ∙ e))
     go (x ∷ l) n = tt
 
 pub every_list_of_uses : EveryListOfUses
-unfolding laid_out told told_in told_by
+unfolding laid_out told told_by
 every_list_of_uses start e before later k k' =
     let s : Sender = sender_over fresh (uses_of before) in
     let w : Settled s = over_settled (uses_of before) fresh fresh_settled in

@@ -1,9 +1,9 @@
 -- A lane that waits gets a grant within the next eight: each grant to another mill brings its turn nearer. Assumes nothing.
+use Rattle.std.specs.Prelude.{Option, Some, None}
 use Prim.Native.Nat.{ℕ, zero, suc, ◌+◌, ◌-◌, ◌≤◌, ◌<◌}
 use native.Mathlib.Omega.{arith}
 use mathlib.Core.Path.{◌≡◌, refl}
 use mathlib.Core.List.{List, [], ◌∷◌, ◌++◌}
-use mathlib.Core.Option.{Option, none, some}
 use mathlib.Core.Bool.{Bool, true, false, not, ◌||◌}
 use lib.ListN.{length, take, set}
 use lib.Dec.{leb, eqb, eqb→eq, eqb_refl, T}
@@ -97,17 +97,17 @@ module _ (m : ℕ) where
       where
         go : (r : Option ℕ) → Found m d r → ((d : ℕ) (s : Sender) → Near d s → Granted d (grants free s))
             → Granted d (elim r as (λ r. Told) [
-              | none ↦ record { grants = []; sender = s }
-              | some mill ↦ telling (mill, first_of (lane mill s.lanes)) (grants free (granted mill s))
+              | None ↦ record { grants = []; sender = s }
+              | Some mill ↦ telling (mill, first_of (lane mill s.lanes)) (grants free (granted mill s))
             ])
-        go (some x) itself ih = met (or_left (eqb m m) _ (eqb_refl m))
-        go (some x) (before g d' there other near gap) ih = one_more (g, first_of (lane g s.lanes)) d d' near (ih d' (granted g s) (record {
+        go (Some x) itself ih = met (or_left (eqb m m) _ (eqb_refl m))
+        go (Some x) (before g d' there other near gap) ih = one_more (g, first_of (lane g s.lanes)) d d' near (ih d' (granted g s) (record {
           few = omega (arith, n.few);
           low = after_low g there;
           gap = gap;
           waits = rw (lane_other g m (rest_of (lane g s.lanes)) s.lanes other) n.waits;
         }))
-        go none f ih = elim f [ ]
+        go None f ih = elim f [ ]
 
     all_meet : {d : ℕ} {s : Sender} → Near d s → Granted d (grant_all s)
     unfolding grant_all

@@ -14,7 +14,7 @@ use Rattle.sender_turns.specs.declared.Lane.{Lane}
 use Rattle.sender_turns.specs.declared.Call.{Call as CallStruct}
 use Rattle.sender_turns.specs.declared.Sender.{Sender as SenderStruct}
 
--- ---- an array moved down by one place
+-- ---- zeros
 
 abbrev zeros : ℕ → List ℕ
 zeros n = replicate n 0
@@ -25,47 +25,9 @@ zeros_less n i h = let e : n - i ≡ suc (n - (i + 1)) = omega arith in rw e
 zeros_one : (n : ℕ) → zeros n ++ (0 ∷ []) ≡ zeros (n + 1)
 zeros_one n = replicate-append-replicate n 1 0
 
-take_next : (l r : List ℕ) (i : ℕ) → i < length l → take i l ++ (get_or l i 0 ∷ r) ≡ take (i + 1) l ++ r
-take_next l r i h = rw (add-one i, take-suc l i 0 h) (sym (append_snoc (take i l) (get_or l i 0) r))
-
-rest_long : (numbers : List ℕ) → length numbers ≡ lane_size → length (drop 1 numbers) ≡ lane_size - 1
-rest_long numbers n = length-drop 1 numbers ∙ ap (λ (m : ℕ). m - 1) n
-
--- a turn: one place more is written
-pub shift_turn : (numbers left : List ℕ) (i : ℕ) → length numbers ≡ lane_size → i + 1 < lane_size → left ≡ take i (drop 1 numbers) ++ zeros (lane_size - i)
-    → set left i (get_or numbers (i + 1) 0) ≡ take (i + 1) (drop 1 numbers) ++ zeros (lane_size - (i + 1))
-shift_turn numbers left i n h e =
-    let long = rest_long numbers n in
-    let at : length (take i (drop 1 numbers)) ≡ i = length-take-le i (drop 1 numbers) (omega arith) in
-    let place : i + 1 ≡ 1 + i = omega arith in
-    let next : get_or numbers (i + 1) 0 ≡ get_or (drop 1 numbers) i 0 = ap (λ (m : ℕ). get_or numbers m 0) place ∙ sym (get_or-drop 1 numbers i 0) in
-    rw (next, e, zeros_less lane_size i (omega arith), set_at (take i (drop 1 numbers)) 0 (zeros (lane_size - (i + 1))) (get_or (drop 1 numbers) i 0) i at)
-    (take_next (drop 1 numbers) (zeros (lane_size - (i + 1))) i (omega arith))
-
-pub shift_end : (numbers left : List ℕ) (i : ℕ) → length numbers ≡ lane_size → i < lane_size → lane_size ≤ i + 1 → left ≡ take i (drop 1 numbers) ++ zeros (lane_size - i)
-    → left ≡ drop 1 numbers ++ (0 ∷ [])
-shift_end numbers left i n h k e =
-    let long = rest_long numbers n in
-    let one : lane_size - i ≡ 1 = omega arith in
-    e ∙ rw (take_all i (drop 1 numbers) (omega arith), one)
-
 -- a list without the element at a place, and one more behind
 abbrev pub less_at : {A : Type 0} → ℕ → List A → A → List A
 less_at i l z = take i l ++ (drop (i + 1) l ++ (z ∷ []))
-
--- a turn: the next element stands in the place of this one, and is now the one to go
-pub without_turn : {A : Type 0} (l : List A) (i : ℕ) (z : A) → i + 1 < length l → less_at (i + 1) (set l i (get_or l (i + 1) z)) z ≡ less_at i l z
-without_turn l i z h =
-    let front : take (i + 1) (set l i (get_or l (i + 1) z)) ≡ take i l ++ (get_or l (i + 1) z ∷ []) = rw (add-one i) (rw (add-one i) at (take-suc-set l i (get_or l (i + 1) z) (omega arith))) in
-    let back : drop (i + 1 + 1) (set l i (get_or l (i + 1) z)) ≡ drop (i + 1 + 1) l = drop-set-lt (i + 1 + 1) l i (get_or l (i + 1) z) (omega arith) in
-    let cut : drop (i + 1) l ≡ get_or l (i + 1) z ∷ drop (i + 1 + 1) l = drop-cons l (i + 1) z h ∙ ap (λ (m : ℕ). get_or l (i + 1) z ∷ drop m l) (sym (add-one (i + 1))) in
-    rw (front, back, cut) (append_snoc (take i l) (get_or l (i + 1) z) (drop (i + 1 + 1) l ++ (z ∷ [])))
-
-pub without_end : {A : Type 0} (l : List A) (i : ℕ) (a z : A) → a ≡ z → i + 1 ≡ length l → set l i a ≡ less_at i l z
-without_end l i a z q e =
-    let none : drop (i + 1) l ≡ [] = drop_of_length-le l {i = i + 1} (omega arith) in
-    let cut : set l i z ≡ take i l ++ (z ∷ drop (i + 1) l) = set_split l i z (omega arith) ∙ ap (λ (m : ℕ). take i l ++ (z ∷ drop m l)) (sym (add-one i)) in
-    rw (q, cut, none)
 
 -- ---- a lane with one request more, and without its oldest
 
@@ -105,12 +67,6 @@ count_of s mill = go s.lanes mill
     go [] m = refl
     go (l ∷ lanes) zero = refl
     go (l ∷ lanes) (suc m) = go lanes m
-
-pub call_at : (out : List Call) (at : ℕ) → at < length out → get_or (calls_of out) at no_call ≡ call_of (get_or out at (0, 0))
-unfolding calls_of call_of
-call_at out at h =
-    get_or-append (map call_of out) (replicate (calls - length out) no_call) no_call at (rw length-map h)
-    ∙ get_or-map call_of out at (0, 0)
 
 pub number_at : (l : List ℕ) → get_or (lane_of l).numbers 0 0 ≡ first_of l
 unfolding lane_of first_of

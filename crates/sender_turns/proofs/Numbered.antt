@@ -1,8 +1,8 @@
 -- Change request 11/13: where the uses' numbers are below a bound, so are all that wait or are out. Assumes nothing.
+use Rattle.std.specs.Prelude.{Option, Some, None}
 use Prim.Native.Nat.{ℕ, zero, suc, ◌-◌, ◌<◌}
 use mathlib.Core.Path.{◌≡◌, refl}
 use mathlib.Core.List.{List, [], ◌∷◌, ◌++◌}
-use mathlib.Core.Option.{Option, none, some}
 use mathlib.Core.Bool.{true, false, not}
 use lib.ListN.{length, set, replicate}
 use lib.Dec.{leb, T}
@@ -48,13 +48,13 @@ module _ (bound : ℕ) where
   grants_numbered zero s p = p
   grants_numbered (suc free) s p = go (next_mill mills s.turn s.lanes) (next_waits mills s.turn s.lanes) (grants_numbered free)
     where
-      go : (r : Option ℕ) → ((g : ℕ) → r ≡ some g → T (not (is_empty (lane g s.lanes)))) → ((s : Sender) → Numbered bound s → Numbered bound (grants free s).sender)
+      go : (r : Option ℕ) → ((g : ℕ) → r ≡ Some g → T (not (is_empty (lane g s.lanes)))) → ((s : Sender) → Numbered bound s → Numbered bound (grants free s).sender)
           → Numbered bound (elim r as (λ r. Told) [
-            | none ↦ record { grants = []; sender = s }
-            | some mill ↦ telling (mill, first_of (lane mill s.lanes)) (grants free (granted mill s))
+            | None ↦ record { grants = []; sender = s }
+            | Some mill ↦ telling (mill, first_of (lane mill s.lanes)) (grants free (granted mill s))
           ]).sender
-      go none f ih = p
-      go (some g) f ih =
+      go None f ih = p
+      go (Some g) f ih =
           let l : List ℕ = lane g s.lanes in
           let low : Low l = lane_low g s.lanes p.waiting in
           ih (granted g s) (record {

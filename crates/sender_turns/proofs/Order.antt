@@ -1,9 +1,9 @@
 -- A mill is granted its requests in the order in which they entered, and a mill alone may have all four calls. Assumes nothing.
+use Rattle.std.specs.Prelude.{Option, Some, None}
 use Prim.Native.Nat.{ℕ, zero, suc, ◌-◌, ◌≤◌, ◌<◌}
 use native.Mathlib.Omega.{arith}
 use mathlib.Core.Path.{◌≡◌, refl, sym, ap, ◌∙◌}
 use mathlib.Core.List.{List, [], ◌∷◌, ◌++◌, append_assoc, append-nil}
-use mathlib.Core.Option.{Option, none, some}
 use mathlib.Core.Bool.{Bool, true, false, not}
 use lib.ListN.{length, set}
 use lib.Dec.{leb, leb→le, eqb, eqb→eq, T}
@@ -18,24 +18,24 @@ use Rattle.sender_turns.proofs.Fair.{quiet_head}
 
 -- a call's number, if it is the mill's, before the others
 kept : Option ℕ → List ℕ → List ℕ
-kept o l = elim o as (λ o. List ℕ) [ none ↦ l | some n ↦ n ∷ l ]
+kept o l = elim o as (λ o. List ℕ) [ None ↦ l | Some n ↦ n ∷ l ]
 
 kept_append : (o : Option ℕ) (l r : List ℕ) → kept o l ++ r ≡ kept o (l ++ r)
 unfolding kept
-kept_append none l r = refl
-kept_append (some n) l r = refl
+kept_append None l r = refl
+kept_append (Some n) l r = refl
 
 numbers_if : (mill g n : ℕ) (told : List Call) (c : Bool) → eqb mill g ≡ c
     → numbers_of mill ((g, n) ∷ told) ≡ (when c then n ∷ numbers_of mill told else numbers_of mill told)
 unfolding numbers_of filter_map when◌then◌else◌ for_mill kept
-numbers_if mill g n told true e = ap (λ (c : Bool). kept (when c then some n else none) (numbers_of mill told)) e
-numbers_if mill g n told false e = ap (λ (c : Bool). kept (when c then some n else none) (numbers_of mill told)) e
+numbers_if mill g n told true e = ap (λ (c : Bool). kept (when c then Some n else None) (numbers_of mill told)) e
+numbers_if mill g n told false e = ap (λ (c : Bool). kept (when c then Some n else None) (numbers_of mill told)) e
 
 numbers_append : (mill : ℕ) (a b : List Call) → numbers_of mill (a ++ b) ≡ numbers_of mill a ++ numbers_of mill b
 unfolding numbers_of filter_map kept
 numbers_append mill [] b = refl
 numbers_append mill (c ∷ a) b =
-    let o : Option ℕ = when for_mill mill c then some c.1 else none in
+    let o : Option ℕ = when for_mill mill c then Some c.1 else None in
     ap (kept o) (numbers_append mill a b) ∙ sym (kept_append o (numbers_of mill a) (numbers_of mill b))
 
 -- ---- grants take a lane's requests from its front
@@ -60,14 +60,14 @@ grants_order (suc free) s mill = go (next_mill mills s.turn s.lanes) (next_waits
     Kept : Told → Type 0
     Kept t = numbers_of mill t.grants ++ lane mill t.sender.lanes ≡ lane mill s.lanes
 
-    go : (r : Option ℕ) → ((g : ℕ) → r ≡ some g → Waiting g s.lanes)
+    go : (r : Option ℕ) → ((g : ℕ) → r ≡ Some g → Waiting g s.lanes)
         → ((s : Sender) (mill : ℕ) → numbers_of mill (grants free s).grants ++ lane mill (grants free s).sender.lanes ≡ lane mill s.lanes)
         → Kept (elim r as (λ r. Told) [
-          | none ↦ record { grants = []; sender = s }
-          | some mill ↦ telling (mill, first_of (lane mill s.lanes)) (grants free (granted mill s))
+          | None ↦ record { grants = []; sender = s }
+          | Some mill ↦ telling (mill, first_of (lane mill s.lanes)) (grants free (granted mill s))
         ])
-    go none f ih = refl
-    go (some g) f ih = one_order s g mill (grants free (granted g s)) (f g refl) (ih (granted g s) mill)
+    go None f ih = refl
+    go (Some g) f ih = one_order s g mill (grants free (granted g s)) (f g refl) (ih (granted g s) mill)
 
 -- ---- a use
 

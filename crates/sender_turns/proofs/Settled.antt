@@ -1,9 +1,9 @@
 -- Change request 11/13: every use leaves a sender settled, and grants at most once; what frees nothing. Assumes nothing.
+use Rattle.std.specs.Prelude.{Option, Some, None}
 use Prim.Native.Nat.{ℕ, zero, suc, ◌+◌, ◌-◌, ◌≤◌, ◌<◌}
 use native.Mathlib.Omega.{arith}
 use mathlib.Core.Path.{◌≡◌, refl, sym, ap, ◌∙◌, subst}
 use mathlib.Core.List.{List, [], ◌∷◌, ◌++◌, append_assoc, append-nil}
-use mathlib.Core.Option.{Option, none, some}
 use mathlib.Core.Bool.{Bool, true, false, not, ◌||◌}
 use lib.ListN.{length, set, replicate, get_or-replicate, length-append, length-set, get_or-eq_default}
 use lib.Seq.{set-set, set-get_or, set_out}
@@ -146,10 +146,10 @@ grew (suc free) s = go (next_mill mills s.turn s.lanes) refl (grew free)
   where
     go : (r : Option ℕ) → next_mill mills s.turn s.lanes ≡ r → ((s : Sender) → Grew free s (grants free s))
         → Grew (suc free) s (elim r as (λ r. Told) [
-          | none ↦ record { grants = []; sender = s }
-          | some mill ↦ telling (mill, first_of (lane mill s.lanes)) (grants free (granted mill s))
+          | None ↦ record { grants = []; sender = s }
+          | Some mill ↦ telling (mill, first_of (lane mill s.lanes)) (grants free (granted mill s))
         ])
-    go none e ih = record {
+    go None e ih = record {
       as_many = refl;
       goes_out = sym (append-nil s.out);
       low = λ p. tt;
@@ -158,7 +158,7 @@ grew (suc free) s = go (next_mill mills s.turn s.lanes) refl (grew free)
       shorter = λ m. omega arith;
       ended = λ l h p. none_found s.lanes s.turn h p e;
     }
-    go (some g) e ih =
+    go (Some g) e ih =
         let i = ih (granted g s) in
         let n = length-set s.lanes g (rest_of (lane g s.lanes)) in
         record {
@@ -305,17 +305,17 @@ resume_empties s w mill q = rw (low_leb mills mill q) (ap Answer.Done (idle_resu
 
 -- of the mills only this one waits
 next_only : (m t : ℕ) (l : List ℕ) (lanes : List (List ℕ)) → m < mills → t < mills → length lanes ≡ mills → ((m : ℕ) → lane m lanes ≡ []) → T (not (is_empty l))
-    → next_mill mills t (set lanes m l) ≡ some m
+    → next_mill mills t (set lanes m l) ≡ Some m
 unfolding is_empty
 next_only m t l lanes q p e f w =
     let a = gap_of t m p q in
     let here : Waiting m (set lanes m l) = rw (lane_put m l lanes (omega arith)) w in
     go a.d (next_mill mills t (set lanes m l)) refl (found m mills t a.d (set lanes m l) p q a.low a.gap here)
   where
-    go : (d : ℕ) (r : Option ℕ) → next_mill mills t (set lanes m l) ≡ r → Found m d r → r ≡ some m
-    go d (some n) h itself = refl
-    go d (some n) h (before g d' low n' near gap) = absurd (subst (λ (l : List ℕ). T (not (is_empty l))) (lane_other m g l lanes (λ e. n' (sym e)) ∙ f g) (next_waits mills t (set lanes m l) g h))
-    go d none h f = elim f [ ]
+    go : (d : ℕ) (r : Option ℕ) → next_mill mills t (set lanes m l) ≡ r → Found m d r → r ≡ Some m
+    go d (Some n) h itself = refl
+    go d (Some n) h (before g d' low n' near gap) = absurd (subst (λ (l : List ℕ). T (not (is_empty l))) (lane_other m g l lanes (λ e. n' (sym e)) ∙ f g) (next_waits mills t (set lanes m l) g h))
+    go d None h f = elim f [ ]
 
 put_back : (mill : ℕ) (lanes : List (List ℕ)) → lane mill lanes ≡ [] → set lanes mill [] ≡ lanes
 unfolding lane
@@ -331,7 +331,7 @@ enter_granted s mill number w q h =
     let here : lane mill put ≡ number ∷ [] = lane_put mill (number ∷ []) s.lanes (omega (arith, w.eight)) in
     let back : set put mill [] ≡ s.lanes = set-set s.lanes mill (number ∷ []) [] ∙ put_back mill s.lanes (f mill) in
     let free : calls - length s.out ≡ suc (calls - length s.out - 1) = omega arith in
-    let next : next_mill mills s.turn put ≡ some mill = next_only mill s.turn (number ∷ []) s.lanes q w.at w.eight f tt in
+    let next : next_mill mills s.turn put ≡ Some mill = next_only mill s.turn (number ∷ []) s.lanes q w.at w.eight f tt in
     let rest = grants_idle (calls - length s.out - 1) (record { lanes = s.lanes; out = s.out ++ (mill, number) ∷ []; turn = after mill }) f in
     rw (f mill, free, next, grants, here, back, rest)
 
@@ -353,11 +353,11 @@ unfolding with_lane
 one_enter s mill number w = busy s w
     (λ h. omega (arith, grants_few (with_lane mill (lane mill s.lanes ++ number ∷ []) s)))
     (λ h f. split mills mill
-    (λ k. omega (arith, ap (λ (t : Told). length t.grants) (none k ∙ idle s w)))
+    (λ k. omega (arith, ap (λ (t : Told). length t.grants) (None k ∙ idle s w)))
     (λ k. omega (arith, ap (λ (t : Told). length t.grants) (enter_granted s mill number w k h))))
   where
-    none : mills ≤ mill → grant_all (with_lane mill (lane mill s.lanes ++ number ∷ []) s) ≡ grant_all s
-    none k =
+    None : mills ≤ mill → grant_all (with_lane mill (lane mill s.lanes ++ number ∷ []) s) ≡ grant_all s
+    None k =
         let e : length s.lanes ≤ mill = omega (arith, w.eight) in
         rw (set_out s.lanes mill)
 

@@ -1,25 +1,25 @@
 -- What the functions of this crate cite: each law's premises are what the callees ensure and the branches say. Assumes nothing.
-use Prim.Native.Nat.{ℕ, zero, suc, ◌+◌, ◌-◌, ◌≤◌, ◌<◌}
+use Rattle.std.specs.Prelude.{Option, Some, None, position, ◌==◌}
+use Rattle.std.specs.List.{position_or_len}
+use Prim.Native.Nat.{ℕ, zero, suc, ◌+◌, ◌-◌, ◌%◌, ◌≤◌, ◌<◌}
 use native.Mathlib.Numerals.{add-one}
 use native.Mathlib.Omega.{arith}
 use mathlib.Core.Path.{◌≡◌, refl, sym, ap, ◌∙◌}
-use mathlib.Core.Bool.{Bool, true, false}
+use mathlib.Core.Bool.{Bool, true, false, not, cond, ◌&&◌}
 use mathlib.Core.List.{List, [], ◌∷◌, ◌++◌, map}
-use mathlib.Core.Option.{Option, none, some}
-use lib.ListN.{length, get_or, set, take, drop, replicate, length-append, drop_of_length-le}
-use lib.Seq.{drop-cons}
-use lib.Dec.{eqb}
-use borrow.Author.Tests.{eq-eqb, ne_eqb, eqb-true, eqb-false}
+use lib.ListN.{length, get_or, set, take, drop, replicate, length-append, length-map}
+use lib.Seq.{take_at}
+use lib.Dec.{ltb, eqb}
+use borrow.Author.Tests.{eq-eqb, ne_eqb}
+use Rattle.std.proofs.lemmas.Bool.Decides.{nat_tests}
 use Rattle.model.specs.Maps.{when◌then◌else◌, is_empty}
-use Rattle.sender_turns.specs.Sender.{Call, Sender, mills, calls, lane_size, lane, after, same_call, rest_of, first_of, next_mill, fresh, granted, Told, telling, grants, grant_all, freed}
-use Rattle.sender_turns.specs.Laid.{lane_of, call_of, no_call, calls_of, laid_out, one_told, answering}
-use Rattle.sender_turns.specs.Steps.{Ready, Found, GrantsTo, Grants, Placed, mill_or_none, place_from, count_at}
+use Rattle.sender_turns.specs.Sender.{Call, Sender, mills, calls, lane_size, lane, after, same_call, rest_of, first_of, next_mill, granted, Told, telling, grants, grant_all, freed}
+use Rattle.sender_turns.specs.Laid.{lane_of, call_of, no_call, calls_of, laid_out, one_told}
+use Rattle.sender_turns.specs.Steps.{Ready, Found, GrantsTo, Granting, Grants, count_at}
 use Rattle.sender_turns.specs.declared.Lane.{Lane}
 use Rattle.sender_turns.specs.declared.Call.{Call as CallStruct}
 use Rattle.sender_turns.specs.declared.Sender.{Sender as SenderStruct}
-use Rattle.sender_turns.specs.declared.Told.{Told as ToldStruct}
-use Rattle.sender_turns.proofs.LaidLaws.{call_at, number_at, set_lanes, set_calls, turn_of, out_of, lanes_is, calls_is, count_is, lane_in, lane_is, sender_is}
-use Rattle.sender_turns.proofs.Turns.{after_low, next_low}
+use Rattle.sender_turns.proofs.LaidLaws.{number_at, set_lanes, set_calls, turn_of, out_of, lanes_is, calls_is, count_is, lane_in, lane_is, sender_is}
 use Rattle.sender_turns.proofs.Settled.{full_idle}
 
 -- ---- the mill after a mill
@@ -32,49 +32,18 @@ pub after_more : (mill : ℕ) → mill < mills - 1 → mill + 1 ≡ after mill
 unfolding after when◌then◌else◌
 after_more mill h = rw (ne_eqb (mill + 1) mills (λ e. absurd (omega arith)))
 
--- ---- a call of a mill and a number
-
-eqb_turn : (a b : ℕ) → eqb a b ≡ eqb b a
-eqb_turn a b = go (eqb b a) refl
-  where
-    go : (t : Bool) → eqb b a ≡ t → eqb a b ≡ eqb b a
-    go true p = eq-eqb a b (sym (eqb-true b a p)) ∙ sym p
-    go false p = ne_eqb a b (λ e. eqb-false b a p (sym e)) ∙ sym p
-
-pub same_by_number : (call : CallStruct) (mill number : ℕ) → call.mill ≡ mill → eqb call.number number ≡ same_call (mill, number) (call.mill, call.number)
-unfolding same_call
-same_by_number call mill number e = rw (eq-eqb mill call.mill (sym e)) (eqb_turn call.number number)
-
-pub other_mill : (call : CallStruct) (mill number : ℕ) → (call.mill ≡ mill → ⊥) → false ≡ same_call (mill, number) (call.mill, call.number)
-unfolding same_call
-other_mill call mill number n = rw (ne_eqb mill call.mill (λ e. n (sym e)))
-
--- ---- a fresh sender, and an answer that grants nothing
-
-pub fresh_of : (lane : Lane) (call : CallStruct) → lane ≡ lane_of [] → call ≡ no_call
-    → ◌≡◌ {A = SenderStruct} (record { lanes = replicate mills lane; calls = replicate calls call; out = 0; turn = 0 }) (laid_out fresh)
-unfolding laid_out fresh calls_of
-fresh_of lane call l e = rw (l, e)
-
-abbrev pub says : ℕ → SenderStruct → ToldStruct
-says code self = record { code = code; granted = false; call = no_call; sender = self }
-
-pub says_of : (code : ℕ) (self : SenderStruct) (call : CallStruct) → call ≡ no_call
-    → ◌≡◌ {A = ToldStruct} (record { code = code; granted = false; call = call; sender = self }) (says code self)
-says_of code self call e = rw e
-
 -- ---- the mill that is next
 
 -- the answer for all mills is the answer for those left to ask
-pub record Asks (self : SenderStruct) (left mill : ℕ) : Type 0 where
-  pub low : mill < mills
-  pub is : (s : Sender) → Ready s → self ≡ laid_out s → next_mill mills s.turn s.lanes ≡ next_mill left mill s.lanes
+pub record Asks (self : SenderStruct) (asked : ℕ) : Type 0 where
+  pub is : (s : Sender) → Ready s → self ≡ laid_out s → next_mill mills s.turn s.lanes ≡ next_mill (mills - asked) ((self.turn % mills + asked) % mills) s.lanes
 
-pub next_no_turn : (self : SenderStruct) → mills ≤ self.turn → Found self mills
-next_no_turn self h = record { is = λ s w e. absurd (omega (arith, turn_of s e, w.at)); waits = λ k. absurd (omega arith) }
-
-pub asks_all : (self : SenderStruct) → self.turn < mills → Asks self mills self.turn
-asks_all self h = record { low = h; is = λ s w e. rw (turn_of s e) }
+pub asks_all : (self : SenderStruct) → Asks self 0
+asks_all self = record {
+  is = λ s w e.
+      let t : (self.turn % mills + 0) % mills ≡ s.turn = omega (arith, turn_of s e, w.at) in
+      rw t;
+}
 
 not_empty : (l : List ℕ) → 0 < length l → is_empty l ≡ false
 unfolding is_empty
@@ -86,7 +55,7 @@ unfolding is_empty
 none_waiting [] h = refl
 none_waiting (n ∷ l) h = absurd (omega arith)
 
-stops : (l : List (List ℕ)) (left mill : ℕ) → 0 < left → 0 < length (lane mill l) → next_mill left mill l ≡ some mill
+stops : (l : List (List ℕ)) (left mill : ℕ) → 0 < left → 0 < length (lane mill l) → next_mill left mill l ≡ Some mill
 unfolding next_mill when◌then◌else◌
 stops l zero mill h k = absurd (omega arith)
 stops l (suc left) mill h k = rw (not_empty (lane mill l) k)
@@ -96,122 +65,100 @@ unfolding next_mill when◌then◌else◌
 goes_on l zero mill h k = absurd (omega arith)
 goes_on l (suc left) mill h k = let e : suc left - 1 ≡ left = omega arith in rw (none_waiting (lane mill l) k, e)
 
-pub next_here : (self : SenderStruct) (left mill : ℕ) → Asks self left mill → 0 < left → 0 < count_at mill self → Found self mill
-unfolding mill_or_none
-next_here self left mill a h k = record {
-  is = λ s w e. sym (ap mill_or_none (a.is s w e ∙ stops s.lanes left mill h (omega (arith, count_is s mill e))));
-  waits = λ _. k;
+-- one mill further
+after_is : (turn asked : ℕ) → after ((turn % mills + asked) % mills) ≡ (turn % mills + (asked + 1)) % mills
+unfolding after when◌then◌else◌
+after_is turn asked = grind (arith, nat_tests)
+
+pub asks_next : (self : SenderStruct) (asked : ℕ) → Asks self asked → asked < mills → count_at ((self.turn % mills + asked) % mills) self ≤ 0 → Asks self (asked + 1)
+asks_next self asked a h k = record {
+  is = λ s w e.
+      let mill : ℕ = (self.turn % mills + asked) % mills in
+      let left : mills - asked - 1 ≡ mills - (asked + 1) = omega arith in
+      a.is s w e ∙ goes_on s.lanes (mills - asked) mill (omega arith) (omega (arith, count_is s mill e)) ∙ rw (left, after_is self.turn asked);
 }
 
-pub asks_next : (self : SenderStruct) (left mill next : ℕ) → Asks self left mill → 0 < left → count_at mill self ≤ 0 → next ≡ after mill → Asks self (left - 1) next
-asks_next self left mill next a h k n = record {
-  low = rw n (after_low mill a.low);
-  is = λ s w e. a.is s w e ∙ goes_on s.lanes left mill h (omega (arith, count_is s mill e)) ∙ rw n;
+pub next_here : (self : SenderStruct) (asked : ℕ) → Asks self asked → asked < mills → 0 < count_at ((self.turn % mills + asked) % mills) self
+    → Found self (Some ((self.turn % mills + asked) % mills))
+next_here self asked a h k = record {
+  is = λ s w e.
+      let mill : ℕ = (self.turn % mills + asked) % mills in
+      sym (a.is s w e ∙ stops s.lanes (mills - asked) mill (omega arith) (omega (arith, count_is s mill e)));
+  waits = (omega arith, k);
 }
 
-pub next_none : (self : SenderStruct) (left mill : ℕ) → Asks self left mill → left ≤ 0 → Found self mills
-unfolding mill_or_none next_mill
-next_none self zero mill a h = record { is = λ s w e. sym (ap mill_or_none (a.is s w e)); waits = λ k. absurd (omega arith) }
-next_none self (suc left) mill a h = absurd (omega arith)
+pub next_none : (self : SenderStruct) (asked : ℕ) → Asks self asked → mills ≤ asked → Found self None
+unfolding next_mill
+next_none self asked a h = record {
+  is = λ s w e.
+      let none : mills - asked ≡ 0 = omega arith in
+      sym (a.is s w e ∙ rw none);
+  waits = tt;
+}
 
 -- ---- the place of a call
 
--- no call before this place is the one that is sought
-pub record Seeks (self : SenderStruct) (call : Call) (at : ℕ) : Type 0 where
-  pub is : (s : Sender) → Ready s → self ≡ laid_out s → place_from 0 call s.out ≡ place_from at call (drop at s.out)
+-- as the code compares a call with another
+abbrev pub is_call : CallStruct → CallStruct → Bool
+is_call call c = (c.mill == call.mill) && (c.number == call.number)
 
--- the code's call at a place that holds one is the definitions'
-same_at : {self : SenderStruct} (s : Sender) (call : Call) (at : ℕ) → self ≡ laid_out s → at < length s.out
-    → same_call call ((get_or self.calls at no_call).mill, (get_or self.calls at no_call).number) ≡ same_call call (get_or s.out at (0, 0))
-unfolding call_of same_call
-same_at s call at e h = rw (calls_is s e, call_at s.out at h)
+same_is : (call : CallStruct) (c : Call) → is_call call (call_of c) ≡ same_call (call.mill, call.number) c
+unfolding same_call call_of
+same_is call c = grind (arith, nat_tests)
 
-pub seeks_all : (self : SenderStruct) (call : Call) → Seeks self call 0
-seeks_all self call = record { is = λ s w e. refl }
-
-placed_end : (self : SenderStruct) (call : Call) (at : ℕ) → Seeks self call at → ((s : Sender) → Ready s → self ≡ laid_out s → length s.out ≤ at) → Placed self call calls
-unfolding place_from
-placed_end self call at k past = record {
-  is = λ s w e.
-      let none : drop at s.out ≡ [] = drop_of_length-le s.out {i = at} (past s w e) in
-      sym (k.is s w e ∙ ap (place_from at call) none);
-  within = λ h. absurd (omega arith);
-}
-
-pub placed_past : (self : SenderStruct) (call : Call) (at : ℕ) → Seeks self call at → self.out ≤ at → Placed self call calls
-placed_past self call at k h = placed_end self call at k (λ s w e. omega (arith, out_of s e))
-
-pub placed_none : (self : SenderStruct) (call : Call) (at : ℕ) → Seeks self call at → calls ≤ at → Placed self call calls
-placed_none self call at k h = placed_end self call at k (λ s w e. omega (arith, w.within))
-
--- what the place's call says of the calls from there on
-place_step : (call : Call) (out : List Call) (at : ℕ) (t : Bool) → at < length out → same_call call (get_or out at (0, 0)) ≡ t
-    → place_from at call (drop at out) ≡ (when t then at else place_from (at + 1) call (drop (at + 1) out))
-unfolding place_from
-place_step call out at t h e = rw (drop-cons out at (0, 0) h, e, add-one at)
-
-pub placed_here : (self : SenderStruct) (call : Call) (at : ℕ) (found : Bool) → Seeks self call at → at < self.out
-    → found ≡ same_call call ((get_or self.calls at no_call).mill, (get_or self.calls at no_call).number) → found ≡ true → Placed self call at
-unfolding when◌then◌else◌
-placed_here self call at found k h f t = record {
-  is = λ s w e.
-      let low : at < length s.out = omega (arith, out_of s e) in
-      sym (k.is s w e ∙ place_step call s.out at true low (sym (same_at s call at e low) ∙ sym f ∙ t));
-  within = λ _. h;
-}
-
-pub seeks_next : (self : SenderStruct) (call : Call) (at : ℕ) (found : Bool) → Seeks self call at → at < self.out
-    → found ≡ same_call call ((get_or self.calls at no_call).mill, (get_or self.calls at no_call).number) → found ≡ false → Seeks self call (at + 1)
-unfolding when◌then◌else◌
-seeks_next self call at found k h f t = record {
-  is = λ s w e.
-      let low : at < length s.out = omega (arith, out_of s e) in
-      k.is s w e ∙ place_step call s.out at false low (sym (same_at s call at e low) ∙ sym f ∙ t);
-}
-
-place_low : (at : ℕ) (call : Call) (out : List Call) → at + length out ≤ calls → at ≤ place_from at call out
-unfolding place_from when◌then◌else◌
-place_low at call [] h = omega arith
-place_low at call (c ∷ out) h = go (same_call call c) (place_low (at + 1) call out (omega arith))
-  where
-    go : (t : Bool) → at + 1 ≤ place_from (at + 1) call out → at ≤ (when t then at else place_from (at + 1) call out)
-    go true k = omega arith
-    go false k = omega arith
+abbrev place_in : CallStruct → List Call → ℕ
+place_in call out = position_or_len (is_call call) (map call_of out)
 
 -- the call at its place is the one that is freed
-freed_from : (at k : ℕ) (call : Call) (out : List Call) → at + length out ≤ calls → place_from at call out ≡ at + k → at + k < calls → freed call out ≡ take k out ++ drop (suc k) out
-unfolding place_from freed when◌then◌else◌
-freed_from at k call [] w e h = absurd (omega arith)
-freed_from at k call (c ∷ out) w e h = go (same_call call c) k e h (place_low (at + 1) call out (omega arith)) (λ k. freed_from (at + 1) k call out)
+freed_at : (call : CallStruct) (out : List Call) → place_in call out < length out
+    → freed (call.mill, call.number) out ≡ take (place_in call out) out ++ drop (place_in call out + 1) out
+unfolding freed when◌then◌else◌
+freed_at call [] h = absurd (omega arith)
+freed_at call (c ∷ out) h = go (is_call call (call_of c)) (same_is call c) (λ k. freed_at call out k) h
   where
-    go : (t : Bool) (k : ℕ) → (when t then at else place_from (at + 1) call out) ≡ at + k → at + k < calls → at + 1 ≤ place_from (at + 1) call out
-        → ((k : ℕ) → at + 1 + length out ≤ calls → place_from (at + 1) call out ≡ at + 1 + k → at + 1 + k < calls → freed call out ≡ take k out ++ drop (suc k) out)
-        → (when t then out else c ∷ freed call out) ≡ take k (c ∷ out) ++ drop (suc k) (c ∷ out)
-    go true zero e h l f = refl
-    go true (suc k) e h l f = absurd (omega arith)
-    go false zero e h l f = absurd (omega arith)
-    go false (suc k) e h l f = ap (λ (x : List Call). c ∷ x) (f k (omega arith) (omega arith) (omega arith))
-
-pub freed_at : (k : ℕ) (call : Call) (out : List Call) → length out ≤ calls → k ≡ place_from 0 call out → k < calls → freed call out ≡ take k out ++ drop (k + 1) out
-freed_at k call out w e h = rw (add-one k) (freed_from 0 k call out (omega arith) (omega arith) (omega arith))
+    go : (t : Bool) → t ≡ same_call (call.mill, call.number) c → (place_in call out < length out → freed (call.mill, call.number) out ≡ take (place_in call out) out ++ drop (place_in call out + 1) out)
+        → cond (not t) (1 + place_in call out) 0 < suc (length out)
+        → (when same_call (call.mill, call.number) c then out else c ∷ freed (call.mill, call.number) out) ≡ take (cond (not t) (1 + place_in call out) 0) (c ∷ out) ++ drop (cond (not t) (1 + place_in call out) 0 + 1) (c ∷ out)
+    go true e f h = rw (← e)
+    go false e f h =
+        let k : 1 + place_in call out ≡ suc (place_in call out) = omega arith in
+        rw (← e, k, f (omega arith), add-one (place_in call out), add-one (suc (place_in call out)))
 
 -- where it is at no place, none is
-freed_past : (at : ℕ) (call : Call) (out : List Call) → at + length out ≤ calls → calls ≤ place_from at call out → freed call out ≡ out
-unfolding place_from freed when◌then◌else◌
-freed_past at call [] w h = refl
-freed_past at call (c ∷ out) w h = go (same_call call c) h (freed_past (at + 1) call out (omega arith))
+freed_none : (call : CallStruct) (out : List Call) → length out ≤ place_in call out → freed (call.mill, call.number) out ≡ out
+unfolding freed when◌then◌else◌
+freed_none call [] h = refl
+freed_none call (c ∷ out) h = go (is_call call (call_of c)) (same_is call c) (λ k. freed_none call out k) h
   where
-    go : (t : Bool) → calls ≤ (when t then at else place_from (at + 1) call out) → (calls ≤ place_from (at + 1) call out → freed call out ≡ out) → (when t then out else c ∷ freed call out) ≡ c ∷ out
-    go true h f = absurd (omega arith)
-    go false h f = ap (λ (x : List Call). c ∷ x) (f h)
+    go : (t : Bool) → t ≡ same_call (call.mill, call.number) c → (length out ≤ place_in call out → freed (call.mill, call.number) out ≡ out) → suc (length out) ≤ cond (not t) (1 + place_in call out) 0
+        → (when same_call (call.mill, call.number) c then out else c ∷ freed (call.mill, call.number) out) ≡ c ∷ out
+    go true e f h = absurd (omega arith)
+    go false e f h = rw (← e, f (omega arith))
 
-pub freed_none : (k : ℕ) (call : Call) (out : List Call) → length out ≤ calls → k ≡ place_from 0 call out → calls ≤ k → freed call out ≡ out
-freed_none k call out w e h = freed_past 0 call out (omega arith) (omega arith)
+-- the calls that are out, as the code holds them
+out_is : {self : SenderStruct} (s : Sender) → self ≡ laid_out s → take self.out self.calls ≡ map call_of s.out
+unfolding calls_of
+out_is s e = rw (out_of s e, calls_is s e) (take_at (map call_of s.out) (replicate (calls - length s.out) no_call) (length s.out) (length-map s.out call_of))
+
+-- what the code finds among them
+module _ (self : SenderStruct) (call : CallStruct) (s : Sender) (e : self ≡ laid_out s) where
+  found_is : (r : Option ℕ) → r ≡ position (is_call call) (take self.out self.calls) → r ≡ cond (ltb (place_in call s.out) (length s.out)) (Some (place_in call s.out)) None
+  found_is r f = rw (out_is s e, length-map s.out call_of) at f
+
+  pub freed_found : (at : ℕ) → Some at ≡ position (is_call call) (take self.out self.calls) → (at < length s.out) × (freed (call.mill, call.number) s.out ≡ take at s.out ++ drop (at + 1) s.out)
+  freed_found at f =
+      let k = found_is (Some at) f in
+      let h : place_in call s.out < length s.out = grind (arith, nat_tests) in
+      let i : at ≡ place_in call s.out = grind (arith, nat_tests) in
+      rw i (h, freed_at call s.out h)
+
+  pub freed_nothing : None ≡ position (is_call call) (take self.out self.calls) → freed (call.mill, call.number) s.out ≡ s.out
+  freed_nothing f =
+      let k = found_is None f in
+      let h : length s.out ≤ place_in call s.out = grind (arith, nat_tests) in
+      freed_none call s.out h
 
 -- ---- a grant
-
-abbrev told_one : CallStruct → SenderStruct → ToldStruct
-told_one call self = record { code = 0; granted = true; call = call; sender = self }
 
 -- the call that goes out
 abbrev call_in : ℕ → SenderStruct → CallStruct
@@ -223,61 +170,43 @@ call_in_is s mill e w h = rw (lane_is s mill e w h, number_at (lane mill s.lanes
 
 pub grants_to : (self : SenderStruct) (mill : ℕ) (rest : Lane) (turn : ℕ) → mill < mills → self.out < calls
     → ((l : List ℕ) → length l ≤ lane_size → lane_in mill self ≡ lane_of l → rest ≡ lane_of (rest_of l)) → turn ≡ after mill
-    → GrantsTo self mill (record {
-      code = 0;
-      granted = true;
-      call = call_in mill self;
-      sender = record { lanes = set self.lanes mill rest; calls = set self.calls self.out (call_in mill self); out = self.out + 1; turn = turn };
-    })
-unfolding answering one_told laid_out granted
+    → GrantsTo self mill (record { lanes = set self.lanes mill rest; calls = set self.calls self.out (call_in mill self); out = self.out + 1; turn = turn }) (call_in mill self)
+unfolding laid_out granted
 grants_to self mill rest turn h o r t = record {
-  is = λ s w e.
+  call_is = λ s w e. call_in_is s mill e w h;
+  leaves = λ s w e.
       let l : List ℕ = lane mill s.lanes in
       let here : rest ≡ lane_of (rest_of l) = r l (w.short mill) (lane_is s mill e w h) in
-      let call : call_in mill self ≡ call_of (mill, first_of l) = call_in_is s mill e w h in
       let lanes : set self.lanes mill rest ≡ map lane_of (set s.lanes mill (rest_of l)) = rw (lanes_is s e, here) (set_lanes s.lanes mill (rest_of l)) in
       let out : self.out ≡ length s.out = out_of s e in
-      let calls-out : set self.calls self.out (call_of (mill, first_of l)) ≡ calls_of (s.out ++ (mill, first_of l) ∷ []) = rw (calls_is s e, out) (set_calls s.out (mill, first_of l) (omega arith)) in
+      let calls-out : set self.calls self.out (call_in mill self) ≡ calls_of (s.out ++ (mill, first_of l) ∷ []) = rw (call_in_is s mill e w h, calls_is s e, out) (set_calls s.out (mill, first_of l) (omega arith)) in
       let long : self.out + 1 ≡ length (s.out ++ (mill, first_of l) ∷ []) = ap (λ (n : ℕ). n + 1) out ∙ sym (length-append s.out ((mill, first_of l) ∷ [])) in
-      rw call (ap (told_one (call_of (mill, first_of l))) (sender_is lanes calls-out long t));
+      sender_is lanes calls-out long t;
 }
 
 -- ---- every grant possible
 
-pub says_idle : {self : SenderStruct} {r : ToldStruct} (s : Sender) → r ≡ says 0 self → self ≡ laid_out s
-    → grant_all s ≡ record { grants = []; sender = s } → r ≡ answering 0 (grant_all s).grants (grant_all s).sender
-unfolding answering one_told
-says_idle s r e g = rw (g, r, e)
+-- nothing is granted
+pub idle_is : {self : SenderStruct} (s : Sender) → self ≡ laid_out s → grant_all s ≡ record { grants = []; sender = s } → Granting s self None
+unfolding one_told
+idle_is s e g = record { told = sym (ap (λ (t : Told). one_told t.grants) g); leaves = e ∙ sym (ap (λ (t : Told). laid_out t.sender) g) }
 
-pub grants_full : (self : SenderStruct) (r : ToldStruct) → calls ≤ self.out → r ≡ says 0 self → Grants self r
-grants_full self r h a = record { is = λ s w one e. says_idle s a e (full_idle s (omega (arith, out_of s e))) }
+pub grants_full : (self : SenderStruct) → calls ≤ self.out → Grants self self None
+grants_full self h = record { is = λ s w one e. idle_is s e (full_idle s (omega (arith, out_of s e))) }
 
--- the number for none is no mill's
-none_is : (o : Option ℕ) → ((g : ℕ) → o ≡ some g → g < mills) → mills ≤ mill_or_none o → o ≡ none
-unfolding mill_or_none
-none_is none f h = refl
-none_is (some g) f h = absurd (omega (arith, f g refl))
-
-some_is : (o : Option ℕ) → mill_or_none o < mills → o ≡ some (mill_or_none o)
-unfolding mill_or_none
-some_is none h = absurd (omega arith)
-some_is (some g) h = refl
-
-step_none : (free : ℕ) (s : Sender) → next_mill mills s.turn s.lanes ≡ none → grants free s ≡ record { grants = []; sender = s }
+step_none : (free : ℕ) (s : Sender) → next_mill mills s.turn s.lanes ≡ None → grants free s ≡ record { grants = []; sender = s }
 unfolding grants
 step_none zero s n = refl
 step_none (suc free) s n = rw (n, grants)
 
-step_some : (free : ℕ) (s : Sender) (mill : ℕ) → next_mill mills s.turn s.lanes ≡ some mill
+step_some : (free : ℕ) (s : Sender) (mill : ℕ) → next_mill mills s.turn s.lanes ≡ Some mill
     → grants (suc free) s ≡ telling (mill, first_of (lane mill s.lanes)) (grants free (granted mill s))
 unfolding grants
 step_some free s mill n = rw (n, grants)
 
-pub grants_none : (self : SenderStruct) (r : ToldStruct) (mill : ℕ) → Found self mill → mills ≤ mill → r ≡ says 0 self → Grants self r
+pub grants_none : (self : SenderStruct) → Found self None → Grants self self None
 unfolding grant_all
-grants_none self r mill f h a = record {
-  is = λ s w one e. says_idle s a e (step_none (calls - length s.out) s (none_is (next_mill mills s.turn s.lanes) (next_low mills s.turn s.lanes w.at) (rw (f.is s w e) at h)));
-}
+grants_none self f = record { is = λ s w one e. idle_is s e (step_none (calls - length s.out) s (sym (f.is s w e))) }
 
 -- grants of which none is told leave the sender as it is
 none_told : (free : ℕ) (s : Sender) → length (grants free s).grants ≤ 0 → grants free s ≡ record { grants = []; sender = s }
@@ -286,10 +215,10 @@ none_told zero s h = refl
 none_told (suc free) s h = go (next_mill mills s.turn s.lanes) refl
   where
     go : (o : Option ℕ) → next_mill mills s.turn s.lanes ≡ o → grants (suc free) s ≡ record { grants = []; sender = s }
-    go none n = step_none (suc free) s n
-    go (some mill) n = absurd (omega (arith, ap (λ (t : Told). length t.grants) (step_some free s mill n)))
+    go None n = step_none (suc free) s n
+    go (Some mill) n = absurd (omega (arith, ap (λ (t : Told). length t.grants) (step_some free s mill n)))
 
-one_told_is : (s : Sender) (mill : ℕ) → next_mill mills s.turn s.lanes ≡ some mill → length s.out < calls → length (grant_all s).grants ≤ 1
+one_told_is : (s : Sender) (mill : ℕ) → next_mill mills s.turn s.lanes ≡ Some mill → length s.out < calls → length (grant_all s).grants ≤ 1
     → grant_all s ≡ record { grants = (mill, first_of (lane mill s.lanes)) ∷ []; sender = granted mill s }
 unfolding grant_all telling
 one_told_is s mill n h one =
@@ -298,9 +227,10 @@ one_told_is s mill n h one =
     let rest : grants (calls - length s.out - 1) (granted mill s) ≡ record { grants = []; sender = granted mill s } = none_told (calls - length s.out - 1) (granted mill s) (omega (arith, ap (λ (t : Told). length t.grants) all)) in
     all ∙ ap (telling (mill, first_of (lane mill s.lanes))) rest
 
-pub grants_one : (self : SenderStruct) (r : ToldStruct) (mill : ℕ) → Found self mill → mill < mills → self.out < calls → GrantsTo self mill r → Grants self r
-grants_one self r mill f h o g = record {
+pub grants_one : (self : SenderStruct) (mill : ℕ) (left : SenderStruct) (call : CallStruct) → Found self (Some mill) → self.out < calls → GrantsTo self mill left call → Grants self left (Some call)
+unfolding one_told
+grants_one self mill left call f o g = record {
   is = λ s w one e.
-      let found : next_mill mills s.turn s.lanes ≡ some mill = some_is (next_mill mills s.turn s.lanes) (rw (f.is s w e) at h) ∙ ap some (sym (f.is s w e)) in
-      rw (one_told_is s mill found (omega (arith, out_of s e)) one) (g.is s w e);
+      let t = one_told_is s mill (sym (f.is s w e)) (omega (arith, out_of s e)) one in
+      record { told = ap Some (g.call_is s w e) ∙ sym (ap (λ (t : Told). one_told t.grants) t); leaves = g.leaves s w e ∙ sym (ap (λ (t : Told). laid_out t.sender) t) };
 }

@@ -1,9 +1,10 @@
 -- Change request 11/13: laws of the turn, of lanes, and of the mill that is found from the turn on. Assumes nothing.
+use Rattle.std.specs.Prelude.{Option, Some, None}
+use Rattle.format.proofs.Options.{None-ne-Some, Some_inj}
 use Prim.Native.Nat.{ℕ, zero, suc, ◌+◌, ◌-◌, ◌≤◌, ◌<◌}
 use native.Mathlib.Omega.{arith}
 use mathlib.Core.Path.{◌≡◌, refl, sym, ap, ◌∙◌, subst}
 use mathlib.Core.List.{List, [], ◌∷◌}
-use mathlib.Core.Option.{Option, none, some, none-ne-some, some_inj}
 use mathlib.Core.Bool.{Bool, true, false, not, true≢false}
 use lib.ListN.{length, set, get_or-eq_default}
 use lib.Seq.{get_or-set_same, get_or-set_other}
@@ -111,13 +112,13 @@ clash t m lanes e c w = subst (λ (b : Bool). T (not b)) c (subst (λ (n : ℕ).
 
 -- the mill itself, or one before it, from which on it is nearer
 pub data Found (m d : ℕ) : Option ℕ → Type 0 where
-  itself : Found m d (some m)
-  before : (g d' : ℕ) → g < mills → (g ≡ m → ⊥) → d' < d → Gap (after g) m d' → Found m d (some g)
+  itself : Found m d (Some m)
+  before : (g d' : ℕ) → g < mills → (g ≡ m → ⊥) → d' < d → Gap (after g) m d' → Found m d (Some g)
 
 farther : (m d : ℕ) (r : Option ℕ) → Found m d r → Found m (suc d) r
-farther m d (some n) itself = itself
-farther m d (some n) (before g d' p n' l h) = before g d' p n' (omega arith) h
-farther m d none f = elim f [ ]
+farther m d (Some n) itself = itself
+farther m d (Some n) (before g d' p n' l h) = before g d' p n' (omega arith) h
+farther m d None f = elim f [ ]
 
 pub found : (m asked t d : ℕ) (lanes : List (List ℕ)) → t < mills → m < mills → d < asked → Gap t m d → Waiting m lanes → Found m d (next_mill asked t lanes)
 unfolding next_mill when◌then◌else◌
@@ -126,39 +127,39 @@ found m (suc asked) t d lanes p q l g w = go (is_empty (lane t lanes)) refl (eqb
   where
     go : (c : Bool) → is_empty (lane t lanes) ≡ c → (e : Bool) → eqb t m ≡ e → (d : ℕ) → d < suc asked → Gap t m d
         → ((d : ℕ) (lanes : List (List ℕ)) → after t < mills → m < mills → d < asked → Gap (after t) m d → Waiting m lanes → Found m d (next_mill asked (after t) lanes))
-        → Found m d (when c then next_mill asked (after t) lanes else some t)
+        → Found m d (when c then next_mill asked (after t) lanes else Some t)
     go true c e f zero l g ih = absurd (clash t m lanes (gap_zero t m p q g) c w)
     go true c e f (suc d) l g ih = farther m d _ (ih d lanes (after_low t p) q (omega arith) (gap_suc t m d p q g) w)
     go false c true f d l g ih = rw (eqb→eq t m (rw f tt)) itself
     go false c false f zero l g ih = absurd (not_eq t m f (gap_zero t m p q g))
     go false c false f (suc d) l g ih = before t d p (not_eq t m f) (omega arith) (gap_suc t m d p q g)
 
-pub next_low : (asked t : ℕ) (lanes : List (List ℕ)) → t < mills → (g : ℕ) → next_mill asked t lanes ≡ some g → g < mills
+pub next_low : (asked t : ℕ) (lanes : List (List ℕ)) → t < mills → (g : ℕ) → next_mill asked t lanes ≡ Some g → g < mills
 unfolding next_mill when◌then◌else◌
-next_low zero t lanes p g e = absurd (none-ne-some g e)
+next_low zero t lanes p g e = absurd (None-ne-Some g e)
 next_low (suc asked) t lanes p g e = go (is_empty (lane t lanes)) (next_low asked (after t) lanes (after_low t p) g) e
   where
-    go : (c : Bool) → (next_mill asked (after t) lanes ≡ some g → g < mills) → (when c then next_mill asked (after t) lanes else some t) ≡ some g → g < mills
+    go : (c : Bool) → (next_mill asked (after t) lanes ≡ Some g → g < mills) → (when c then next_mill asked (after t) lanes else Some t) ≡ Some g → g < mills
     go true ih e = ih e
-    go false ih e = subst (λ (n : ℕ). n < mills) (some_inj.0 e) p
+    go false ih e = subst (λ (n : ℕ). n < mills) (Some_inj.0 e) p
 
-pub next_waits : (asked t : ℕ) (lanes : List (List ℕ)) (g : ℕ) → next_mill asked t lanes ≡ some g → Waiting g lanes
+pub next_waits : (asked t : ℕ) (lanes : List (List ℕ)) (g : ℕ) → next_mill asked t lanes ≡ Some g → Waiting g lanes
 unfolding next_mill when◌then◌else◌
-next_waits zero t lanes g e = absurd (none-ne-some g e)
+next_waits zero t lanes g e = absurd (None-ne-Some g e)
 next_waits (suc asked) t lanes g e = go (is_empty (lane t lanes)) refl (next_waits asked (after t) lanes g) e
   where
-    go : (c : Bool) → is_empty (lane t lanes) ≡ c → (next_mill asked (after t) lanes ≡ some g → Waiting g lanes)
-        → (when c then next_mill asked (after t) lanes else some t) ≡ some g → Waiting g lanes
+    go : (c : Bool) → is_empty (lane t lanes) ≡ c → (next_mill asked (after t) lanes ≡ Some g → Waiting g lanes)
+        → (when c then next_mill asked (after t) lanes else Some t) ≡ Some g → Waiting g lanes
     go true f ih e = ih e
-    go false f ih e = subst (λ (n : ℕ). Waiting n lanes) (some_inj.0 e) (subst (λ (b : Bool). T (not b)) (sym f) tt)
+    go false f ih e = subst (λ (n : ℕ). Waiting n lanes) (Some_inj.0 e) (subst (λ (b : Bool). T (not b)) (sym f) tt)
 
 -- where no mill is found, every lane is empty
-pub none_found : (lanes : List (List ℕ)) (t : ℕ) → length lanes ≡ mills → t < mills → next_mill mills t lanes ≡ none → (m : ℕ) → lane m lanes ≡ []
+pub none_found : (lanes : List (List ℕ)) (t : ℕ) → length lanes ≡ mills → t < mills → next_mill mills t lanes ≡ None → (m : ℕ) → lane m lanes ≡ []
 none_found lanes t e p n m = go (leb mills m) refl
   where
-    no_case : (d : ℕ) (r : Option ℕ) → Found m d r → r ≡ none → ⊥
-    no_case d (some g) f e = none-ne-some g (sym e)
-    no_case d none f e = elim f [ ]
+    no_case : (d : ℕ) (r : Option ℕ) → Found m d r → r ≡ None → ⊥
+    no_case d (Some g) f e = None-ne-Some g (sym e)
+    no_case d None f e = elim f [ ]
 
     go : (c : Bool) → leb mills m ≡ c → lane m lanes ≡ []
     go true h = lane_past m lanes (omega (arith, leb→le mills m (rw h tt)))
@@ -168,7 +169,7 @@ none_found lanes t e p n m = go (leb mills m) refl
         no_case a.d (next_mill mills t lanes) (found m mills t a.d lanes p q a.low a.gap w) n)
 
 -- and where every lane is empty, none is found
-pub none_waits : (asked t : ℕ) (lanes : List (List ℕ)) → ((m : ℕ) → lane m lanes ≡ []) → next_mill asked t lanes ≡ none
+pub none_waits : (asked t : ℕ) (lanes : List (List ℕ)) → ((m : ℕ) → lane m lanes ≡ []) → next_mill asked t lanes ≡ None
 unfolding next_mill when◌then◌else◌ is_empty
 none_waits zero t lanes f = refl
 none_waits (suc asked) t lanes f = rw (f t) (none_waits asked (after t) lanes f)
@@ -180,10 +181,10 @@ unfolding grants telling granted
 grants_low zero s p = p
 grants_low (suc free) s p = go (next_mill mills s.turn s.lanes) (next_low mills s.turn s.lanes p) (grants_low free)
   where
-    go : (r : Option ℕ) → ((g : ℕ) → r ≡ some g → g < mills) → ((s : Sender) → s.turn < mills → (grants free s).sender.turn < mills)
+    go : (r : Option ℕ) → ((g : ℕ) → r ≡ Some g → g < mills) → ((s : Sender) → s.turn < mills → (grants free s).sender.turn < mills)
         → (elim r as (λ r. Told) [
-          | none ↦ record { grants = []; sender = s }
-          | some mill ↦ telling (mill, first_of (lane mill s.lanes)) (grants free (granted mill s))
+          | None ↦ record { grants = []; sender = s }
+          | Some mill ↦ telling (mill, first_of (lane mill s.lanes)) (grants free (granted mill s))
         ]).sender.turn < mills
-    go none f ih = p
-    go (some g) f ih = ih (granted g s) (after_low g (f g refl))
+    go None f ih = p
+    go (Some g) f ih = ih (granted g s) (after_low g (f g refl))

@@ -1,6 +1,5 @@
 -- Change request 11/13: what is claimed of a sender. Proved in proofs/Theorems.antt. Assumes nothing.
-use Rattle.std.specs.Prelude.{ℕ, ◌-◌, ◌≤◌, ◌<◌, ◌≡◌, List, [], ◌∷◌, ◌++◌, Bool, false, not, length, set, take, eqb, T}
-use Rattle.std.proofs.Math.Option.{none, some}
+use Rattle.std.specs.Prelude.{ℕ, ◌-◌, ◌≤◌, ◌<◌, ◌≡◌, List, [], ◌∷◌, ◌++◌, Bool, false, not, length, set, take, eqb, T, Some, None}
 use Rattle.format.specs.Format.{All}
 use Rattle.model.specs.Maps.{when◌then◌else◌, any, filter_map, is_empty}
 use Rattle.sender_turns.specs.Sender.{Call, Sender, Use, Answer, mills, calls, lane_size, fresh, lane, after, same_call, mill_of, used, sender_after, told_by, sender_over, told_over}
@@ -58,7 +57,7 @@ left_of mill (Use.Reply m number) l = l
 left_of mill (Use.Resume m) l = when eqb mill m then [] else l
 
 unfoldable pub numbers_of : ℕ → List Call → List ℕ
-numbers_of mill told = filter_map (λ call. when for_mill mill call then some call.1 else none) told
+numbers_of mill told = filter_map (λ call. when for_mill mill call then Some call.1 else None) told
 
 -- what the uses put behind the mill's lane, in their order
 unfoldable pub entered_over : ℕ → Sender → List Use → List ℕ

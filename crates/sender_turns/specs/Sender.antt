@@ -1,6 +1,5 @@
 -- Change request 11/13, fair turns at the provider: what a sender is, and what each use of it does. Assumes nothing.
-use Rattle.std.specs.Prelude.{ℕ, zero, suc, ◌+◌, ◌-◌, List, [], ◌∷◌, ◌++◌, Bool, ◌&&◌, length, get_or, set, replicate, leb, eqb}
-use Rattle.std.proofs.Math.Option.{Option, none, some}
+use Rattle.std.specs.Prelude.{ℕ, zero, suc, ◌+◌, ◌-◌, List, [], ◌∷◌, ◌++◌, Bool, ◌&&◌, length, get_or, set, replicate, leb, eqb, Option, Some, None}
 use Rattle.model.specs.Maps.{when◌then◌else◌, is_empty}
 
 -- the mills on the account, the calls that may be out at a time, the requests that a lane holds
@@ -47,8 +46,8 @@ after mill = when eqb (mill + 1) mills then 0 else mill + 1
 
 -- the first mill with a request waiting, of so many that are asked from this one on
 unfoldable pub next_mill : (asked mill : ℕ) → List (List ℕ) → Option ℕ
-next_mill zero mill lanes = none
-next_mill (suc asked) mill lanes = when is_empty (lane mill lanes) then next_mill asked (after mill) lanes else some mill
+next_mill zero mill lanes = None
+next_mill (suc asked) mill lanes = when is_empty (lane mill lanes) then next_mill asked (after mill) lanes else Some mill
 
 unfoldable pub first_of : List ℕ → ℕ
 first_of [] = 0
@@ -78,8 +77,8 @@ telling call t = record { grants = call ∷ t.grants; sender = t.sender }
 unfoldable pub grants : (free : ℕ) → Sender → Told
 grants zero s = record { grants = []; sender = s }
 grants (suc free) s = elim (next_mill mills s.turn s.lanes) [
-  | none ↦ record { grants = []; sender = s }
-  | some mill ↦ telling (mill, first_of (lane mill s.lanes)) (grants free (granted mill s))
+  | None ↦ record { grants = []; sender = s }
+  | Some mill ↦ telling (mill, first_of (lane mill s.lanes)) (grants free (granted mill s))
 ]
 
 unfoldable pub grant_all : Sender → Told

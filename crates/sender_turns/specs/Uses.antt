@@ -1,37 +1,45 @@
 -- Change request 11/13, of the code: what is claimed of lists of uses from a fresh sender. A use is known by what its method ensures, and by nothing
 -- else. Proved in proofs/CodeTheorems.antt. Assumes nothing.
-use Rattle.std.specs.Prelude.{ℕ, ◌≤◌, ◌<◌, ◌≡◌, List, [], ◌∷◌, ◌++◌, map, length, take, get_or, eqb}
+use Rattle.std.specs.Prelude.{ℕ, ◌≤◌, ◌<◌, ◌≡◌, List, [], ◌∷◌, ◌++◌, map, length, take, get_or, eqb, ◌&&◌, Option, Some, None, Result, Ok, Err, is_ok}
 use Rattle.model.specs.Maps.{when◌then◌else◌}
 use Rattle.sender_turns.specs.Sender.{Call, Use, mills, calls, fresh, sender_over, told_over}
 use Rattle.sender_turns.specs.Claims.{NoResume, Within, numbers_of}
 use Rattle.sender_turns.specs.Laid.{lane_of, laid_out, Answers}
 use Rattle.sender_turns.specs.declared.Sender.{Sender as SenderStruct}
-use Rattle.sender_turns.specs.declared.Told.{Told as ToldStruct}
+use Rattle.sender_turns.specs.declared.Call.{Call as CallStruct}
+use Rattle.sender_turns.specs.declared.Refusal.{Refusal}
 
--- a use: what the method was called with, what it answered, and what it ensures
+-- a use: what the method was called with, the sender after it, what it answered, and what it ensures
 pub record Used : Type 0 where
   pub asked : Use
   pub sender : SenderStruct
-  pub answer : ToldStruct
-  pub is : Answers asked sender answer
+  pub after : SenderStruct
+  pub answer : Result (Option CallStruct) Refusal
+  pub is : Answers asked sender after answer
 
 abbrev pub uses_of : List Used → List Use
 uses_of l = map (λ u. u.asked) l
 
--- each use is of the sender that the use before it answered
+-- each use is of the sender that the use before it left
 unfoldable pub Linked : SenderStruct → List Used → Type 0
 Linked s [] = Unit {0}
-Linked s (u ∷ l) = (u.sender ≡ s) × Linked u.answer.sender l
+Linked s (u ∷ l) = (u.sender ≡ s) × Linked u.after l
 
 -- the sender that the uses leave
 unfoldable pub left : SenderStruct → List Used → SenderStruct
 left s [] = s
-left s (u ∷ l) = left u.answer.sender l
+left s (u ∷ l) = left u.after l
+
+-- the grant that an answer tells, if it tells one
+unfoldable pub told_in : Result (Option CallStruct) Refusal → List Call
+told_in (Ok (Some call)) = (call.mill, call.number) ∷ []
+told_in (Ok None) = []
+told_in (Err e) = []
 
 -- the grants that the answers tell, in their order
 unfoldable pub told : List Used → List Call
 told [] = []
-told (u ∷ l) = (when u.answer.granted then (u.answer.call.mill, u.answer.call.number) ∷ [] else []) ++ told l
+told (u ∷ l) = told_in u.answer ++ told l
 
 -- a mill's requests that wait, and how many
 unfoldable pub count_in : ℕ → SenderStruct → ℕ
@@ -41,14 +49,14 @@ unfoldable pub waiting_in : ℕ → SenderStruct → List ℕ
 waiting_in mill s = take (count_in mill s) (get_or s.lanes mill (lane_of [])).numbers
 
 -- what entered the mill's lane, in its order
-unfoldable pub entered_by : ℕ → Use → ℕ → List ℕ
-entered_by mill (Use.Enter m number) code = when eqb code 0 then (when eqb mill m then number ∷ [] else []) else []
-entered_by mill (Use.Reply m number) code = []
-entered_by mill (Use.Resume m) code = []
+unfoldable pub entered_by : ℕ → Use → Result (Option CallStruct) Refusal → List ℕ
+entered_by mill (Use.Enter m number) r = when is_ok r && eqb mill m then number ∷ [] else []
+entered_by mill (Use.Reply m number) r = []
+entered_by mill (Use.Resume m) r = []
 
 unfoldable pub entered_in : ℕ → List Used → List ℕ
 entered_in mill [] = []
-entered_in mill (u ∷ l) = entered_by mill u.asked u.answer.code ++ entered_in mill l
+entered_in mill (u ∷ l) = entered_by mill u.asked u.answer ++ entered_in mill l
 
 -- of uses from a fresh sender, and of uses after these
 pub record Meets (start : SenderStruct) (before later : List Used) : Type 0 where

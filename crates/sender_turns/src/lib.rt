@@ -1,10 +1,10 @@
-// The sender that stands after the engines: eight mills on one account take turns at four calls. A sender goes in by value and comes back.
+// The sender that stands after the engines: eight mills on one account take turns at four calls.
 #![tactic(auto)]
 
-ghost use Rattle.std.specs.Prelude.{◌≡◌, false, List, [], ◌∷◌, ◌++◌, ℕ, ◌+◌, ◌≤◌, ◌<◌, length, take, drop};
-ghost use Rattle.sender_turns.specs.Sender.{Use, mills, calls, lane_size, fresh, after, rest_of, same_call};
-ghost use Rattle.sender_turns.specs.Laid.{lane_of, laid_out, no_call, Answers};
-ghost use Rattle.sender_turns.specs.Steps.{Found, GrantsTo, Grants, Placed, count_at};
+ghost use Rattle.std.specs.Prelude.{◌≡◌, List, [], ◌∷◌, ◌++◌, ℕ, ◌+◌, ◌≤◌, ◌<◌, length, take, drop, MatchResult, position, ◌==◌, ◌&&◌};
+ghost use Rattle.sender_turns.specs.Sender.{Use, mills, calls, lane_size, fresh, after, rest_of};
+ghost use Rattle.sender_turns.specs.Laid.{lane_of, laid_out, no_call, number_of, Answers};
+ghost use Rattle.sender_turns.specs.Steps.{Found, GrantsTo, Grants, count_at};
 
 // The mills on the account.
 pub const MILLS: usize = 8;
@@ -15,11 +15,25 @@ pub const CALLS: usize = 4;
 // The requests that a lane holds.
 pub const LANE: usize = 24;
 
-// A use of a mill that is not there.
-pub const NO_SUCH_MILL: u8 = 11;
+// Why a use is refused.
+#[derive(Clone, Copy, PartialEq, Eq)]
+pub enum Refusal {
+    // the mill is not there
+    NoSuchMill,
+    // the mill's lane holds as many requests as it can
+    LaneFull,
+}
 
-// A request for a lane that holds as many as it can.
-pub const LANE_FULL: u8 = 12;
+impl From<Refusal> for u8 {
+    ghost from_gives = { λ e n. n ≡ number_of e };
+
+    fn from(e: Refusal) -> u8 {
+        match e {
+            Refusal::NoSuchMill => 11,
+            Refusal::LaneFull => 12,
+        }
+    }
+}
 
 // A mill's requests that wait, the oldest first. Places past the count are zero.
 #[derive(Clone, Copy)]
@@ -28,11 +42,14 @@ pub struct Lane {
     pub count: usize,
 }
 
-#[derive(Clone, Copy)]
+#[derive(Clone, Copy, PartialEq, Eq)]
 pub struct Call {
     pub mill: u8,
     pub number: u64,
 }
+
+// A place that holds no call.
+const NO_CALL: Call = Call { mill: 0, number: 0 };
 
 // The calls out are the first `out`, in the order of their grants; places past them are zero. `turn` is the mill that is asked first.
 #[derive(Clone, Copy)]
@@ -43,257 +60,166 @@ pub struct Sender {
     pub turn: usize,
 }
 
-// What a use answers: 0 or the refusal; the call that was granted, if one was; the sender after it.
-#[derive(Clone, Copy)]
-pub struct Told {
-    pub code: u8,
-    pub granted: bool,
-    pub call: Call,
-    pub sender: Sender,
-}
-
-fn no_call() -> Call
-    ensures { result ≡ no_call }
-{
-    Call { mill: 0, number: 0 }
-}
-
 // The mill after this one.
+#[tactic(auto, using(crate::proofs::StepLaws::after_last, crate::proofs::StepLaws::after_more))]
 pub fn after(mill: usize) -> usize
     ensures { mill < mills → result ≡ after mill }
 {
-    if mill < MILLS - 1 {
-        return mill + 1;
-    }
-    0
+    if mill < MILLS - 1 { mill + 1 } else { 0 }
 }
 
-// The numbers moved down by one place.
-fn shifted(numbers: [u64; LANE]) -> [u64; LANE]
-    ensures { result ≡ drop 1 numbers ++ (0 ∷ []) }
+// The mill's place among the lanes.
+fn place_of(mill: u8) -> Result<usize, Refusal>
+    ensures { MatchResult result (λ at. (at ≡ mill) × (mill < mills)) (λ e. (e ≡ Refusal.NoSuchMill) × (mills ≤ mill)) }
 {
-    let mut left = [0u64; LANE];
-    let mut i = 0;
-    while i + 1 < LANE {
-        left[i] = numbers[i + 1];
-        i += 1;
+    let at = usize::from(mill);
+    if at < MILLS {
+        Ok(at)
+    } else {
+        Err(Refusal::NoSuchMill)
     }
-    left
 }
 
 impl Lane {
+    #[tactic(auto, unfolding(crate::specs::Laid::lane_of))]
     fn empty() -> Lane
         ensures { result ≡ lane_of [] }
     {
         Lane {
-            numbers: [0u64; LANE],
+            numbers: [0; LANE],
             count: 0,
         }
     }
 
     // One request more, behind the others.
-    fn with(self, number: u64) -> Lane
-        requires { self.count < lane_size }
-        ensures { (l : List ℕ) → self ≡ lane_of l → result ≡ lane_of (l ++ number ∷ []) }
+    #[tactic(auto, using(crate::proofs::LaidLaws::with_one))]
+    fn push(&mut self, number: u64)
+        requires { self.old.count < lane_size }
+        ensures { (l : List ℕ) → self.old ≡ lane_of l → self.new ≡ lane_of (l ++ number ∷ []) }
     {
-        let count = self.count;
-        let mut lane = self;
-        lane.numbers[count] = number;
-        lane.count = count + 1;
-        lane
+        self.numbers[self.count] = number;
+        self.count += 1;
     }
 
-    // Without the oldest request.
-    fn rest(self) -> Lane
-        requires { 0 < self.count }
-        ensures { (l : List ℕ) → length l ≤ lane_size → self ≡ lane_of l → result ≡ lane_of (rest_of l) }
+    // Takes out the oldest request, and moves the others down.
+    fn remove_oldest(&mut self)
+        requires { 0 < self.old.count }
+        ensures { (l : List ℕ) → length l ≤ lane_size → self.old ≡ lane_of l → self.new ≡ lane_of (rest_of l) }
     {
-        let held = self.numbers;
-        let numbers = shifted(held);
-        let count = self.count - 1;
-        Lane { numbers, count }
+        self.numbers.copy_within(1.., 0);
+        self.numbers[LANE - 1] = 0;
+        self.count -= 1;
     }
 }
 
-// The calls without the one at `at`, moved down over it.
-fn without(held: [Call; CALLS], at: usize) -> [Call; CALLS]
+// Takes out the call at `at`, and moves those behind it down over it.
+fn remove(held: &mut [Call; CALLS], at: usize)
     requires { at < calls }
-    ensures { result ≡ take at held ++ (drop (at + 1) held ++ (no_call ∷ [])) }
+    ensures { held.new ≡ take at held.old ++ (drop (at + 1) held.old ++ no_call ∷ []) }
 {
-    let mut left = held;
-    let mut i = at;
-    while i + 1 < CALLS {
-        let call = left[i + 1];
-        left[i] = call;
-        i += 1;
-    }
-    left[i] = no_call();
-    left
-}
-
-fn is_call(call: Call, mill: u8, number: u64) -> bool
-    ensures { result ≡ same_call (mill, number) (call.mill, call.number) }
-{
-    if call.mill == mill {
-        return call.number == number;
-    }
-    false
+    held.copy_within(at + 1.., at);
+    held[CALLS - 1] = NO_CALL;
 }
 
 impl Sender {
     // All lanes empty, no call out; mill 0 is asked first.
+    #[tactic(auto, unfolding(crate::specs::Laid::laid_out, crate::specs::Laid::calls_of, crate::specs::Sender::fresh))]
     pub fn fresh() -> Sender
         ensures { result ≡ laid_out fresh }
     {
-        let lane = Lane::empty();
-        let call = no_call();
         Sender {
-            lanes: [lane; MILLS],
-            calls: [call; CALLS],
+            lanes: [Lane::empty(); MILLS],
+            calls: [NO_CALL; CALLS],
             out: 0,
             turn: 0,
         }
     }
 
-    // An answer that grants nothing.
-    fn says(self, code: u8) -> Told
-        ensures { result ≡ record { code = code; granted = false; call = no_call; sender = self } }
+    // The first mill with a request waiting, from the turn on.
+    #[tactic(auto, using(crate::proofs::StepLaws::asks_all, crate::proofs::StepLaws::asks_next, crate::proofs::StepLaws::next_here, crate::proofs::StepLaws::next_none))]
+    fn next(&self) -> Option<usize>
+        ensures { Found self.now result }
     {
-        let call = no_call();
-        Told {
-            code,
-            granted: false,
-            call,
-            sender: self,
-        }
-    }
-
-    // The first mill with a request waiting, from the turn on; MILLS where no lane has one.
-    fn next(self) -> usize
-        ensures { Found self result }
-    {
-        let turn = self.turn;
-        if MILLS <= turn {
-            return MILLS;
-        }
-        let mut mill = turn;
-        let mut left = MILLS;
-        while 0 < left {
-            let lane = self.lanes[mill];
-            if 0 < lane.count {
-                return mill;
+        for asked in 0..MILLS {
+            let mill = (self.turn % MILLS + asked) % MILLS;
+            if 0 < self.lanes[mill].count {
+                return Some(mill);
             }
-            mill = after(mill);
-            left -= 1;
         }
-        MILLS
+        None
     }
 
     // The oldest request of the mill goes out, and the turn moves on.
-    fn granted(self, mill: usize) -> Told
-        requires { (mill < mills) × (self.out < calls) × (0 < count_at mill self) }
-        ensures { GrantsTo self mill result }
+    #[tactic(auto, using(crate::proofs::StepLaws::grants_to))]
+    fn granted(&mut self, mill: usize) -> Call
+        requires { (mill < mills) × (self.old.out < calls) × (0 < count_at mill self.old) }
+        ensures { GrantsTo self.old mill self.new result }
     {
-        let out = self.out;
-        let lane = self.lanes[mill];
         let call = Call {
             mill: mill as u8,
-            number: lane.numbers[0],
+            number: self.lanes[mill].numbers[0],
         };
-        let rest = lane.rest();
-        let turn = after(mill);
-        let mut sender = self;
-        sender.lanes[mill] = rest;
-        sender.calls[out] = call;
-        sender.out = out + 1;
-        sender.turn = turn;
-        Told {
-            code: 0,
-            granted: true,
-            call,
-            sender,
-        }
+        self.lanes[mill].remove_oldest();
+        self.calls[self.out] = call;
+        self.out += 1;
+        self.turn = after(mill);
+        call
     }
 
     // Every grant possible. What a use leaves has none, so that after one change there is at most one.
-    fn grant(self) -> Told
-        ensures { Grants self result }
+    #[tactic(auto, using(crate::proofs::StepLaws::grants_full, crate::proofs::StepLaws::grants_none, crate::proofs::StepLaws::grants_one))]
+    fn grant(&mut self) -> Option<Call>
+        ensures { Grants self.old self.new result }
     {
         if CALLS <= self.out {
-            return self.says(0);
+            return None;
         }
-        let mill = self.next();
-        if MILLS <= mill {
-            return self.says(0);
-        }
-        self.granted(mill)
+        let mill = self.next()?;
+        Some(self.granted(mill))
     }
 
     // A request enters its mill's lane.
-    pub fn enter(self, mill: u8, number: u64) -> Told
-        ensures { Answers (Use.Enter mill number) self result }
+    #[tactic(auto, using(crate::proofs::UseLaws::no_mill, crate::proofs::UseLaws::lane_full, crate::proofs::UseLaws::enters), unfolding(crate::specs::Sender::mill_of))]
+    pub fn enter(&mut self, mill: u8, number: u64) -> Result<Option<Call>, Refusal>
+        ensures { Answers (Use.Enter mill number) self.old self.new result }
     {
-        let at = mill as usize;
-        if MILLS <= at {
-            return self.says(NO_SUCH_MILL);
+        let at = place_of(mill)?;
+        if LANE <= self.lanes[at].count {
+            return Err(Refusal::LaneFull);
         }
-        let lane = self.lanes[at];
-        if LANE <= lane.count {
-            return self.says(LANE_FULL);
-        }
-        let mut sender = self;
-        sender.lanes[at] = lane.with(number);
-        sender.grant()
+        self.lanes[at].push(number);
+        Ok(self.grant())
     }
 
-    // The place of the first call out of this mill and number; CALLS where none is out.
-    fn place(self, mill: u8, number: u64) -> usize
-        ensures { Placed self (mill, number) result }
+    // The place of the first call out that is this one.
+    fn place(&self, call: Call) -> Option<usize>
+        ensures { result ≡ position (λ c. (c.mill == call.mill) && (c.number == call.number)) (take self.now.out self.now.calls) }
     {
-        let out = self.out;
-        let mut at = 0;
-        while at < CALLS {
-            if out <= at {
-                return CALLS;
-            }
-            if is_call(self.calls[at], mill, number) {
-                return at;
-            }
-            at += 1;
-        }
-        CALLS
+        let mut out = self.calls.iter().take(self.out);
+        out.position(|c| *c == call)
     }
 
     // The reply to a call has come: one call of this mill and number is freed.
-    pub fn reply(self, mill: u8, number: u64) -> Told
-        ensures { Answers (Use.Reply mill number) self result }
+    #[tactic(auto, using(crate::proofs::UseLaws::no_mill, crate::proofs::UseLaws::replies_none, crate::proofs::UseLaws::replies), unfolding(crate::specs::Sender::mill_of))]
+    pub fn reply(&mut self, mill: u8, number: u64) -> Result<Option<Call>, Refusal>
+        ensures { Answers (Use.Reply mill number) self.old self.new result }
     {
-        if MILLS <= mill as usize {
-            return self.says(NO_SUCH_MILL);
-        }
-        let at = self.place(mill, number);
-        if CALLS <= at {
-            return self.says(0);
-        }
-        let held = self.calls;
-        let calls = without(held, at);
-        let mut sender = self;
-        sender.calls = calls;
-        sender.out = self.out - 1;
-        sender.grant()
+        place_of(mill)?;
+        let Some(at) = self.place(Call { mill, number }) else {
+            return Ok(None);
+        };
+        remove(&mut self.calls, at);
+        self.out -= 1;
+        Ok(self.grant())
     }
 
     // The mill starts anew: its lane is emptied. Calls out hold their share until their reply comes.
-    pub fn resume(self, mill: u8) -> Told
-        ensures { Answers (Use.Resume mill) self result }
+    #[tactic(auto, using(crate::proofs::UseLaws::no_mill, crate::proofs::UseLaws::resumes_at), unfolding(crate::specs::Sender::mill_of))]
+    pub fn resume(&mut self, mill: u8) -> Result<Option<Call>, Refusal>
+        ensures { Answers (Use.Resume mill) self.old self.new result }
     {
-        let at = mill as usize;
-        if MILLS <= at {
-            return self.says(NO_SUCH_MILL);
-        }
-        let mut lanes = self.lanes;
-        lanes[at] = Lane::empty();
-        let sender = Sender { lanes, ..self };
-        sender.says(0)
+        let at = place_of(mill)?;
+        self.lanes[at] = Lane::empty();
+        Ok(None)
     }
 }

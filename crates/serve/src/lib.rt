@@ -2,9 +2,9 @@
 #![tactic(auto)]
 
 ghost use Rattle.std.specs.Prelude.{length};
-ghost use Rattle.input.specs.Served.{Served};
-ghost use Rattle.serve.specs.Serves.{after_line, Lent, Replies, Replied};
+ghost use Rattle.serve.specs.Serves.{Replies, Replied};
 
+use input::Answers;
 use std::io::Stdin;
 
 // The file number of standard output.
@@ -13,92 +13,69 @@ const STDOUT_FILENO: i32 = 1;
 // The longest answer, with what can be read behind it.
 const TEXT: usize = program::TEXT + looks::LOOK;
 
-// Answers a line: the state goes on, and the answer stands at the start of `text`, with what can be read of the state behind it where that is
-// asked for.
-fn reply(
+// The state, the buffers that answer a line, and whether what can be read of the state stands behind each answer.
+#[derive(Drop)]
+struct Desk {
     look: bool,
-    state: &mut [u8],
-    work: &mut [u8],
-    out: &mut [u8],
-    frame: &mut [u8],
-    line: &[u8],
-    text: &mut [u8],
-) -> usize
-    requires { Lent state.old work.old out.old frame.old text.old }
-    ensures { Replies look line.now state.old state.new text.new result }
-{
-    let r = program::answer_line(state, work, out, frame, line, text);
-    let written = r.text;
-    if !look {
-        return written;
+    state: [u8; engine::STATE],
+    work: [u8; engine::STATE],
+    out: [u8; frame::MAX_EFFECTS],
+    frame: [u8; lines::MAX_FRAME],
+    text: [u8; TEXT],
+}
+
+impl Desk {
+    // Answers a line: the state goes on, and the answer stands at the start of the text.
+    fn reply(&mut self, line: &[u8]) -> usize
+        ensures { Replies self.old.look line.now self.old.state self.new.state self.new.text result }
+    {
+        let r = program::answer_line(
+            &mut self.state,
+            &mut self.work,
+            &mut self.out,
+            &mut self.frame,
+            line,
+            &mut self.text,
+        );
+        let written = r.text;
+        if !self.look {
+            return written;
+        }
+        looks::put_look(&self.state, &mut self.text, written)
     }
-    looks::put_look(state, text, written)
+
+    // Answers a line, and writes the answer. False where it cannot be written.
+    fn write_reply(&mut self, line: &[u8]) -> bool
+        ensures { Replied self.old.look line.now self.old.state self.new.state self.new.text }
+    {
+        let n = self.reply(line);
+        let text: &[u8] = &self.text;
+        io::write_all(STDOUT_FILENO, &text[..n])
+    }
 }
 
-// Answers a line, and writes the answer. False where it cannot be written.
-fn answer(
-    look: bool,
-    state: &mut [u8],
-    work: &mut [u8],
-    out: &mut [u8],
-    frame: &mut [u8],
-    line: &[u8],
-    text: &mut [u8],
-) -> bool
-    requires { Lent state.old work.old out.old frame.old text.old }
-    ensures { Replied look line.now state.old state.new text.new }
-{
-    let n = reply(look, state, work, out, frame, line, text);
-    io::write_all(STDOUT_FILENO, &text[..n])
-}
+impl Answers for Desk {
+    ghost use Rattle.serve.specs.Serves.{after_line};
 
-// Nothing says that there is a last line, so the loop counts its turns down, from a number that no run uses up.
-fn answer_all(
-    stdin: Stdin,
-    look: bool,
-    state: &mut [u8],
-    work: &mut [u8],
-    out: &mut [u8],
-    frame: &mut [u8],
-    line: &mut [u8],
-    text: &mut [u8],
-    chunk: &mut [u8],
-)
-    requires { Lent state.old work.old out.old frame.old text.old }
-    ensures { Served after_line (length line.old) state.old state.new }
-{
-    let mut at: usize = 0;
-    let mut end: usize = 0;
-    let mut turns = u64::MAX;
-    while 0 < turns {
-        let p = input::read_line(stdin, chunk, line, at, end);
-        let have = p.have;
-        if !p.whole {
-            return;
-        }
-        if !answer(look, state, work, out, frame, &line[..have], text) {
-            return;
-        }
-        if p.ended {
-            return;
-        }
-        at = p.at;
-        end = p.end;
-        turns -= 1;
+    ghost held = { λ desk. desk.state };
+
+    ghost after_line = { after_line };
+
+    fn answer(&mut self, line: &[u8]) -> bool {
+        self.write_reply(line)
     }
 }
 
 // Answers the lines of standard input, from a fresh state; with `look`, each with what can be read of the state then.
 pub fn serve(stdin: Stdin, look: bool) {
-    let mut state = [0u8; engine::STATE];
-    let mut work = [0u8; engine::STATE];
-    let mut out = [0u8; frame::MAX_EFFECTS];
-    let mut frame = [0u8; lines::MAX_FRAME];
-    let mut line = [0u8; lines::LINE];
-    let mut text = [0u8; TEXT];
-    let mut chunk = io::large_buffer();
-    access::fresh(&mut state);
-    answer_all(
-        stdin, look, &mut state, &mut work, &mut out, &mut frame, &mut line, &mut text, &mut chunk,
-    );
+    let mut desk = Desk {
+        look,
+        state: [0; engine::STATE],
+        work: [0; engine::STATE],
+        out: [0; frame::MAX_EFFECTS],
+        frame: [0; lines::MAX_FRAME],
+        text: [0; TEXT],
+    };
+    access::fresh(&mut desk.state);
+    input::serve(stdin, &mut desk);
 }

@@ -1,9 +1,9 @@
 -- The staged entries of the open pass: each law's premises are what the callees ensure. Assumes nothing.
+use Rattle.std.specs.Prelude.{Option, Some, Ok, Err, eqb}
 use Prim.Native.Nat.{ℕ, suc, ◌+◌, ◌-◌, ◌*◌, ◌≤◌, ◌<◌}
 use native.Mathlib.Omega.{arith}
 use mathlib.Core.Path.{◌≡◌, refl, sym, ap, ap₂, ◌∙◌, subst}
 use mathlib.Core.List.{List, [], ◌∷◌, ◌++◌, append_assoc}
-use mathlib.Core.Option.{Option, some}
 use mathlib.Core.Bool.{Bool, true, false}
 use lib.ListN.{length, take, drop, get_or, length-append}
 use lib.Seq.{take_at, drop_at, take_all, drop-append-add, get_or-take, get_or-drop}
@@ -11,9 +11,7 @@ use lib.Dec.{leb}
 use Rattle.format.specs.Format.{via, enum, ◌∣◌, nothing}
 use Rattle.spans.specs.Bytes.{zeros}
 use Rattle.spans.specs.Compare.{order}
-use Rattle.spans.proofs.Laws.{drop_zeros}
 use Rattle.tables.specs.Table.{Table, Sized, enc_table, place, insert_slot, remove_slot, some_slot, against, is_equal}
-use Rattle.tables.specs.declared.Place.TheVariants.{Found, Missing}
 use Rattle.tables.proofs.Laws as tables
 use Rattle.lent.specs.Lent.{part, placed}
 use Rattle.model.specs.Event.{Text, ProviderEvent}
@@ -40,10 +38,8 @@ use Rattle.state.proofs.Columns as columns
 use Rattle.state.proofs.Columns.{Column}
 use Rattle.pass_tables.proofs.Laws as pass
 use Rattle.pass_tables.proofs.Laws.{Opened}
-use Rattle.records.proofs.Laws as records
-use Rattle.staged.specs.Staging.{staged_of, may_stage, with_stage, without_stage, staged_at, meant_kind, KindAt, StagedAt}
-use Rattle.staged.specs.declared.StagedKind.{StagedKind}
-use Rattle.staged.specs.declared.StagedKind.TheVariants as kind
+use Rattle.staged.specs.Staging.{staged_of, may_stage, with_stage, without_stage, staged_at, StagedAt}
+use Rattle.staged.specs.declared.Staged.TheVariants as answer
 
 abbrev own_key : Text → List ℕ
 own_key name = name
@@ -67,78 +63,61 @@ staged_column = record {
 abbrev Rows : Type 0
 Rows = Map ResourceId Staged
 
-rows_of : (s : SyncState) (p : Pass) → s.pass ≡ some p → staged_of s ≡ p.staged
+rows_of : (s : SyncState) (p : Pass) → s.pass ≡ Some p → staged_of s ≡ p.staged
 unfolding pass_of
 rows_of s p e = ap (λ (o : Option Pass). (pass_of o).staged) e
 
-in_pass : (f : Rows → Rows) (s : SyncState) (p : Pass) → s.pass ≡ some p → pass_changed (with_staged (f (staged_of s))) s ≡ pass_changed (λ p. with_staged (f p.staged) p) s
+in_pass : (f : Rows → Rows) (s : SyncState) (p : Pass) → s.pass ≡ Some p → pass_changed (with_staged (f (staged_of s))) s ≡ pass_changed (λ p. with_staged (f p.staged) p) s
 in_pass f s p e =
-    sym (pass.pass_some (with_staged (f (staged_of s))) s p e) ∙ ap (λ (m : Rows). with_pass (some (with_staged (f m) p)) s) (rows_of s p e) ∙ pass.pass_some (λ p. with_staged (f p.staged) p) s p e
+    sym (pass.pass_some (with_staged (f (staged_of s))) s p e) ∙ ap (λ (m : Rows). with_pass (Some (with_staged (f m) p)) s) (rows_of s p e) ∙ pass.pass_some (λ p. with_staged (f p.staged) p) s p e
 
-in_limit : (name : Text) (v : Staged) (s : SyncState) (p : Pass) → s.pass ≡ some p → leb (length (insert by_name name v (staged_of s))) 10 ≡ may_stage name v s
+in_limit : (name : Text) (v : Staged) (s : SyncState) (p : Pass) → s.pass ≡ Some p → leb (length (insert by_name name v (staged_of s))) 10 ≡ may_stage name v s
 unfolding match◌none:◌some:◌
 in_limit name v s p e =
     ap (λ (m : Rows). leb (length (insert by_name name v m)) 10) (rows_of s p e) ∙ sym (ap (λ (o : Option Pass). match o none: true some: (λ p. leb (length (insert by_name name v p.staged)) 10)) e)
 
 -- ---- stage
 
-pub stage_closed : (name : Text) (v : Staged) (w : List ℕ) → get_or w 9185 0 ≡ 0 → Tries (may_stage name v) (with_stage name v) w true w
+pub stage_closed : (name : Text) (v : Staged) (w : List ℕ) {o : Bool} → pass.IsOpen w o → o ≡ false → Tries (may_stage name v) (with_stage name v) w true w
 unfolding match◌none:◌some:◌
-stage_closed name v w z = record {
-  is = λ s h. rw (pass.closed s w h z);
-  makes = λ s h y. subst (λ (x : SyncState). Keeps x w) (pass.pass_none (λ p. with_staged (insert by_name name v p.staged) p) s (pass.closed s w h z)) h;
+stage_closed name v w O z = record {
+  is = λ s h. rw (pass.closed s w h O z);
+  makes = λ s h y. subst (λ (x : SyncState). Keeps x w) (pass.pass_none (λ p. with_staged (insert by_name name v p.staged) p) s (pass.closed s w h O z)) h;
   stays = λ s h y. h;
 }
 
-staged_tries : (b slot w w' : List ℕ) (r : Bool) → Named b → (get_or w 9185 0 ≡ 0 → ⊥)
+staged_tries : (b slot w w' : List ℕ) (r : Bool) {o : Bool} → Named b → pass.IsOpen w o → o ≡ true
     → ((t : Table) → Sized 916 t → part 9221 9161 w ≡ enc_table 9161 t → length t ≤ 10
     → (r ≡ leb (length (insert_slot slot t)) 10) × (r ≡ true → w' ≡ placed 9221 9161 (enc_table 9161 (insert_slot slot t)) w) × (r ≡ false → w' ≡ w))
     → (v : Staged) → staged_f.Ok v → slot ≡ staged_slot (name_of b, v)
     → Tries (may_stage (name_of b) v) (with_stage (name_of b) v) w r w'
-staged_tries b slot w w' r N z g v ok e =
-    let T = columns.inserted staged_column slot w w' r (name_of b) v N.ok ok e (λ s h. pass.opened s w h z) g in
+staged_tries b slot w w' r N O z g v ok e =
+    let T = columns.inserted staged_column slot w w' r (name_of b) v N.ok ok e (λ s h. pass.opened s w h O z) g in
     record {
-      is = λ s h. let o = pass.opened s w h z in T.is s h ∙ in_limit (name_of b) v s o.pass o.is;
-      makes = λ s h y. let o = pass.opened s w h z in subst (λ (x : SyncState). Keeps x w') (in_pass (insert by_name (name_of b) v) s o.pass o.is) (T.makes s h y);
+      is = λ s h. let o = pass.opened s w h O z in T.is s h ∙ in_limit (name_of b) v s o.pass o.is;
+      makes = λ s h y. let o = pass.opened s w h O z in subst (λ (x : SyncState). Keeps x w') (in_pass (insert by_name (name_of b) v) s o.pass o.is) (T.makes s h y);
       stays = T.stays;
     }
 
-pub byte_tries : (b z1 r1 slot w w' : List ℕ) (first : ℕ) (r : Bool) → Named b → (get_or w 9185 0 ≡ 0 → ⊥)
-    → z1 ≡ zeros 916 → r1 ≡ take 0 z1 ++ (b ++ drop (0 + length b) z1) → slot ≡ take 33 r1 ++ ((first ∷ []) ++ drop (33 + 1) r1)
+-- a case behind the name, and an event behind it
+case_and_event : (b event key slot : List ℕ) (case : ℕ) → length b ≡ 33 → key ≡ padded 34 (b ++ (case ∷ [])) → slot ≡ padded 916 (key ++ event) → slot ≡ b ++ padded 883 (case ∷ event)
+case_and_event b event key slot case l e d =
+    let n : length (b ++ (case ∷ [])) ≡ 34 = length-append b (case ∷ []) ∙ ap (λ (x : ℕ). x + 1) l in
+    let f : key ++ event ≡ b ++ (case ∷ event) = ap (λ (x : List ℕ). x ++ event) (e ∙ ops.whole_slot 34 (b ++ (case ∷ [])) n) ∙ append_assoc b (case ∷ []) event in
+    d ∙ ap (padded 916) f ∙ ops.behind_key 33 883 b (case ∷ event) l
+
+pub case_tries : (b event key slot w w' : List ℕ) (case : ℕ) (r : Bool) {o : Bool} → Named b → pass.IsOpen w o → o ≡ true
+    → key ≡ padded 34 (b ++ (case ∷ [])) → slot ≡ padded 916 (key ++ event)
     → ((t : Table) → Sized 916 t → part 9221 9161 w ≡ enc_table 9161 t → length t ≤ 10
     → (r ≡ leb (length (insert_slot slot t)) 10) × (r ≡ true → w' ≡ placed 9221 9161 (enc_table 9161 (insert_slot slot t)) w) × (r ≡ false → w' ≡ w))
-    → (v : Staged) → staged_f.Ok v → first ∷ [] ≡ staged_f.enc v
+    → (v : Staged) → staged_f.Ok v → case ∷ event ≡ staged_f.enc v
     → Tries (may_stage (name_of b) v) (with_stage (name_of b) v) w r w'
-byte_tries b z1 r1 slot w w' first r N z q p d g v ok e =
-    staged_tries b slot w w' r N z g v ok (
-    records.filled 33 883 z1 b (first ∷ []) r1 slot (ops.named_long b N) (omega arith) q p d
-    ∙ ap₂ (λ (x y : List ℕ). x ++ padded 883 y) N.is e)
+case_tries b event key slot w w' case r N O z p d g v ok e =
+    staged_tries b slot w w' r N O z g v ok (case_and_event b event key slot case (ops.named_long b N) p d ∙ ap₂ (λ (x y : List ℕ). x ++ padded 883 y) N.is e)
 
--- an event, one byte past the name
-past : (b z1 r1 slot event : List ℕ) → length b ≡ 33 → length event ≤ 882 → z1 ≡ zeros 916 → r1 ≡ take 0 z1 ++ (b ++ drop (0 + length b) z1) → slot ≡ take 34 r1 ++ (event ++ drop (34 + length event) r1)
-    → slot ≡ b ++ padded 883 (0 ∷ event)
-unfolding padded
-past b z1 r1 slot event l k q p d =
-    let n : length (b ++ (0 ∷ [])) ≡ 34 = length-append b (0 ∷ []) ∙ ap (λ (x : ℕ). x + 1) l in
-    let l0 : 0 + length b ≡ 33 = omega arith in
-    let n0 : 0 + length (b ++ (0 ∷ [])) ≡ 34 = omega arith in
-    let f : drop (0 + length b) z1 ≡ 0 ∷ drop (0 + length (b ++ (0 ∷ []))) z1 =
-    ap₂ drop l0 q ∙ drop_zeros 33 916 (omega arith) ∙ ap (λ (x : List ℕ). 0 ∷ x) (sym (ap₂ drop n0 q ∙ drop_zeros 34 916 (omega arith))) in
-    let a : b ++ drop (0 + length b) z1 ≡ (b ++ (0 ∷ [])) ++ drop (0 + length (b ++ (0 ∷ []))) z1 =
-    ap (λ (x : List ℕ). b ++ x) f ∙ sym (append_assoc b (0 ∷ []) (drop (0 + length (b ++ (0 ∷ []))) z1)) in
-    let c : 882 - length event ≡ 883 - suc (length event) = omega arith in
-    records.filled 34 882 z1 (b ++ (0 ∷ [])) event r1 slot n k q (p ∙ a) d
-    ∙ append_assoc b (0 ∷ []) (event ++ zeros (882 - length event)) ∙ ap (λ (m : ℕ). b ++ (0 ∷ (event ++ zeros m))) c
-
-pub event_tries : (b event z1 r1 slot w w' : List ℕ) (r : Bool) → Named b → length event ≤ 882 → (get_or w 9185 0 ≡ 0 → ⊥)
-    → z1 ≡ zeros 916 → r1 ≡ take 0 z1 ++ (b ++ drop (0 + length b) z1) → slot ≡ take 34 r1 ++ (event ++ drop (34 + length event) r1)
-    → ((t : Table) → Sized 916 t → part 9221 9161 w ≡ enc_table 9161 t → length t ≤ 10
-    → (r ≡ leb (length (insert_slot slot t)) 10) × (r ≡ true → w' ≡ placed 9221 9161 (enc_table 9161 (insert_slot slot t)) w) × (r ≡ false → w' ≡ w))
-    → (e : ProviderEvent) → event_f.Ok e → event ≡ event_f.enc e
-    → Tries (may_stage (name_of b) (Staged.Present e)) (with_stage (name_of b) (Staged.Present e)) w r w'
+pub event_ok : (e : ProviderEvent) → event_f.Ok e → (b : List ℕ) → b ≡ event_f.enc e → staged_f.Ok (Staged.Present e) × (0 ∷ b ≡ staged_f.enc (Staged.Present e))
 unfolding staged_f via enum ◌∣◌
-event_tries b event z1 r1 slot w w' r N k z q p d g e ok f =
-    staged_tries b slot w w' r N z g (Staged.Present e) ok (past b z1 r1 slot event (ops.named_long b N) k q p d ∙ ap₂ (λ (x y : List ℕ). x ++ padded 883 (0 ∷ y)) N.is f)
+event_ok e ok b d = (ok, ap (λ (x : List ℕ). 0 ∷ x) d)
 
 pub unread_ok : staged_f.Ok Staged.Unread × (1 ∷ [] ≡ staged_f.enc Staged.Unread)
 unfolding staged_f via enum ◌∣◌ nothing
@@ -150,15 +129,12 @@ removed_ok = (tt, refl)
 
 -- ---- unstage
 
-pub unstage_closed : (name : Text) (w : List ℕ) → get_or w 9185 0 ≡ 0 → Edits (without_stage name) w w
-unstage_closed name w z = pass.unchanged (λ p. with_staged (remove by_name name p.staged) p) w z
-
-pub unstaged : (b w w' : List ℕ) → Named b → (get_or w 9185 0 ≡ 0 → ⊥)
+pub unstaged : (b w w' : List ℕ) {o : Bool} → Named b → pass.IsOpen w o → o ≡ true
     → ((t : Table) → Sized 916 t → part 9221 9161 w ≡ enc_table 9161 t → w' ≡ placed 9221 9161 (enc_table 9161 (remove_slot b t)) w)
     → Edits (without_stage (name_of b)) w w'
-unstaged b w w' N z g =
-    let T = columns.removed staged_column b w w' (name_of b) N.ok refl (λ s h. pass.opened s w h z) g in
-    record { makes = λ s h. let o = pass.opened s w h z in subst (λ (x : SyncState). Keeps x w') (in_pass (remove by_name (name_of b)) s o.pass o.is) (T.makes s h) }
+unstaged b w w' N O z g =
+    let T = columns.removed staged_column b w w' (name_of b) N.ok refl (λ s h. pass.opened s w h O z) g in
+    record { makes = λ s h. let o = pass.opened s w h O z in subst (λ (x : SyncState). Keeps x w') (in_pass (remove by_name (name_of b)) s o.pass o.is) (T.makes s h) }
 
 -- ---- the first byte of a value, and its event
 
@@ -169,7 +145,7 @@ value_of : (e : ResourceId × Staged) → resource_id.Ok e.0 → drop 33 (staged
 value_of e ok = drop_at (name_slot e.0) (field 883 staged_f e.1) 33 (length_name e.0 ok)
 
 unread_byte : (v : Staged) → is_equal (order (take 1 (field 883 staged_f v)) (1 ∷ [])) ≡ is_unread v
-unfolding order is_unread staged_f via enum ◌∣◌ nothing padded
+unfolding is_unread staged_f via enum ◌∣◌ nothing padded
 unread_byte (Staged.Present e) = refl
 unread_byte Staged.Unread = refl
 unread_byte Staged.Removed = refl
@@ -201,33 +177,34 @@ some_unread w r g =
     columns.some_row staged_column (λ s. is_equal (against 33 (1 ∷ []) s)) is_unread w r
     (λ e ok. ap (λ (x : List ℕ). is_equal (order (take 1 x) (1 ∷ []))) (value_of e ok.0) ∙ unread_byte e.1) g
 
-kind_unread : (v : Staged) (n : ℕ) → n ≡ get_or (field 883 staged_f v) 0 0 → (n ≡ 1 → true ≡ is_unread v) × ((n ≡ 1 → ⊥) → false ≡ is_unread v)
+kind_unread : (v : Staged) → eqb (get_or (field 883 staged_f v) 0 0) 1 ≡ is_unread v
 unfolding is_unread staged_f via enum ◌∣◌ nothing padded
-kind_unread (Staged.Present e) n q = (λ z. absurd (omega arith), λ z. refl)
-kind_unread Staged.Unread n q = (λ z. refl, λ z. absurd (z q))
-kind_unread Staged.Removed n q = (λ z. absurd (omega arith), λ z. refl)
+kind_unread (Staged.Present e) = refl
+kind_unread Staged.Unread = refl
+kind_unread Staged.Removed = refl
 
 abbrev Unread : Text → SyncState → Bool
 Unread name s = is_some_and is_unread (get by_name name (staged_of s))
 
 pub listed_found : (b w : List ℕ) (p : ℕ) → Named b
-    → ((t : Table) → Sized 916 t → part 9221 9161 w ≡ enc_table 9161 t → Found p ≡ place 916 b t 1)
-    → (get_or w (9221 + p + 33) 0 ≡ 1 → Reads (Unread (name_of b)) w true) × ((get_or w (9221 + p + 33) 0 ≡ 1 → ⊥) → Reads (Unread (name_of b)) w false)
+    → ((t : Table) → Sized 916 t → part 9221 9161 w ≡ enc_table 9161 t → Ok p ≡ place 916 b t 1)
+    → Reads (Unread (name_of b)) w (eqb (get_or w (9221 + p + 33) 0) 1)
 unfolding is_some_and
-listed_found b w p N g = (
-  λ z. record { is = λ s h. let H = columns.there staged_column b w (name_of b) p N.ok refl s h g in (kind_unread H.e.1 _ (first_byte w (9221 + p) H.e H.fits.0 H.bytes)).0 z ∙ sym (ap (is_some_and is_unread) H.got) },
-  λ z. record { is = λ s h. let H = columns.there staged_column b w (name_of b) p N.ok refl s h g in (kind_unread H.e.1 _ (first_byte w (9221 + p) H.e H.fits.0 H.bytes)).1 z ∙ sym (ap (is_some_and is_unread) H.got) },
-)
+listed_found b w p N g = record {
+  is = λ s h.
+      let H = columns.there staged_column b w (name_of b) p N.ok refl s h g in
+      ap (λ (n : ℕ). eqb n 1) (first_byte w (9221 + p) H.e H.fits.0 H.bytes) ∙ kind_unread H.e.1 ∙ sym (ap (is_some_and is_unread) H.got);
+}
 
 pub listed_missing : (b w : List ℕ) (p : ℕ) → Named b
-    → ((t : Table) → Sized 916 t → part 9221 9161 w ≡ enc_table 9161 t → Missing p ≡ place 916 b t 1)
+    → ((t : Table) → Sized 916 t → part 9221 9161 w ≡ enc_table 9161 t → Err p ≡ place 916 b t 1)
     → Reads (Unread (name_of b)) w false
 unfolding is_some_and
 listed_missing b w p N g = record { is = λ s h. sym (ap (is_some_and is_unread) (columns.not_there staged_column b w (name_of b) p N.ok refl s h g)) }
 
 pub listed_room : (b w : List ℕ) (p : ℕ) → Named b → HasState w
-    → ((t : Table) → Sized 916 t → part 9221 9161 w ≡ enc_table 9161 t → Found p ≡ place 916 b t 1) → 9221 + p + 916 ≤ state_length
-listed_room b w p N K g = (columns.there staged_column b w (name_of b) p N.ok refl K.state K.keeps g).room
+    → ((t : Table) → Sized 916 t → part 9221 9161 w ≡ enc_table 9161 t → Ok p ≡ place 916 b t 1) → 9221 + p + 916 ≤ length w
+listed_room b w p N K g = let l = K.keeps.long in omega (arith, (columns.there staged_column b w (name_of b) p N.ok refl K.state K.keeps g).room)
 
 -- ---- entry i
 
@@ -259,50 +236,49 @@ staged_name w q i K l e = (
   (ops.slot_named q (staged_at i K.state).0 (nth w i K.state K.keeps l).1.0 (name_is w q i K.state K.keeps l e)).1,
 )
 
-pub staged_kind : (w : List ℕ) (i : ℕ) (r : StagedKind) → i < get_or w 9221 0 → ((v : Staged) → get_or w (9221 + 1 + i * 916 + 33) 0 ≡ get_or (staged_f.enc v) 0 0 → meant_kind r v) → KindAt i w r
-staged_kind w i r l g = record {
-  is = λ s h. let u = nth w i s h l in g (staged_at i s).1 (first_byte w (9221 + 1 + i * 916) (staged_at i s) u.1.0 u.0 ∙ kind_byte (staged_at i s).1);
-}
-
 present_ok : (v : Staged) (e : ProviderEvent) → staged_f.Ok v → v ≡ Staged.Present e → event_f.Ok e
 unfolding staged_f via enum ◌∣◌
 present_ok v e ok q = subst (λ (x : Staged). staged_f.Ok x) q ok
 
-pub staged_event : (w : List ℕ) (i : ℕ) → HasState w → i < get_or w 9221 0 → StagedAt i w (9221 + 1 + i * 916 + 34)
-staged_event w i K l = record {
-  is = λ s h e q.
+-- the case of a byte
+case_of : ℕ → Staged → Type 0
+case_of n v = (n ≡ 0 → (e : ProviderEvent) × (v ≡ Staged.Present e)) × (n ≡ 1 → v ≡ Staged.Unread) × ((n ≡ 0 → ⊥) → (n ≡ 1 → ⊥) → v ≡ Staged.Removed)
+
+cases : (n : ℕ) (v : Staged) → n ≡ get_or (staged_f.enc v) 0 0 → case_of n v
+unfolding staged_f via enum ◌∣◌ nothing case_of
+cases n (Staged.Present x) e = (λ z. (x, refl), λ z. absurd (omega arith), λ y z. absurd (y e))
+cases n Staged.Unread e = (λ z. absurd (omega arith), λ z. refl, λ y z. absurd (z e))
+cases n Staged.Removed e = (λ z. absurd (omega arith), λ z. absurd (omega arith), λ y z. refl)
+
+module _ (w : List ℕ) (i : ℕ) (K : HasState w) (l : i < get_or w 9221 0) where
+  here : (s : SyncState) → Keeps s w → case_of (get_or w (9221 + 1 + i * 916 + 33) 0) (staged_at i s).1
+  here s h =
       let u = nth w i s h l in
-      let x : ResourceId × Staged = staged_at i s in (
-        present_ok x.1 e u.1.1 q,
-        tables.field_of w 916 (9221 + 1 + i * 916) 34 882 (omega arith) ∙ ap (λ (y : List ℕ). take 882 (drop 34 y)) u.0
-            ∙ ap (take 882) (drop_append_of (name_slot x.0) (field 883 staged_f x.1) (length_name x.0 u.1.0) ∙ ap (λ (v : Staged). drop 1 (field 883 staged_f v)) q ∙ event_behind e)
-            ∙ take_all 882 (field 882 event_f e) (omega (arith, event_long e (present_ok x.1 e u.1.1 q))),
-      );
-  room = let k = few w i K l in omega arith;
-}
-  where
-    drop_append_of : (a b : List ℕ) → length a ≡ 33 → drop 34 (a ++ b) ≡ drop 1 b
-    drop_append_of a b l = ap (λ (n : ℕ). drop (n + 1) (a ++ b)) (sym l) ∙ drop-append-add a b 1
+      cases _ (staged_at i s).1 (first_byte w (9221 + 1 + i * 916) (staged_at i s) u.1.0 u.0 ∙ kind_byte (staged_at i s).1)
 
-    event_long : (e : ProviderEvent) → event_f.Ok e → length (field 882 event_f e) ≡ 882
-    event_long e ok = length_field event_within e ok
+  event_there : (s : SyncState) → Keeps s w → (e : ProviderEvent) → (staged_at i s).1 ≡ Staged.Present e → take 882 (drop (9221 + 1 + i * 916 + 33 + 1) w) ≡ field 882 event_f e
+  event_there s h e q =
+      let u = nth w i s h l in
+      let x : ResourceId × Staged = staged_at i s in
+      let n : 9221 + 1 + i * 916 + 33 + 1 ≡ 9221 + 1 + i * 916 + 34 = omega arith in
+      ap (λ (j : ℕ). take 882 (drop j w)) n ∙ tables.field_of w 916 (9221 + 1 + i * 916) 34 882 (omega arith) ∙ ap (λ (y : List ℕ). take 882 (drop 34 y)) u.0
+      ∙ ap (take 882) (drop_append_of (name_slot x.0) (field 883 staged_f x.1) (length_name x.0 u.1.0) ∙ ap (λ (v : Staged). drop 1 (field 883 staged_f v)) q ∙ event_behind e)
+      ∙ take_all 882 (field 882 event_f e) (omega (arith, length_field event_within e (present_ok x.1 e u.1.1 q)))
+    where
+      drop_append_of : (a b : List ℕ) → length a ≡ 33 → drop 34 (a ++ b) ≡ drop 1 b
+      drop_append_of a b l = ap (λ (n : ℕ). drop (n + 1) (a ++ b)) (sym l) ∙ drop-append-add a b 1
 
--- the kind of a byte
+  pub entry_present : get_or w (9221 + 1 + i * 916 + 33) 0 ≡ 0 → StagedAt i w (answer.Present (9221 + 1 + i * 916 + 33 + 1))
+  unfolding case_of
+  entry_present z = record {
+    is = λ s h. let p = (here s h).0 z in (p.0, p.1, present_ok (staged_at i s).1 p.0 (nth w i s h l).1.1 p.1, event_there s h p.0 p.1);
+    room = let k = few w i K l in omega arith;
+  }
 
-pub kind_present : (n : ℕ) → n ≡ 0 → (v : Staged) → n ≡ get_or (staged_f.enc v) 0 0 → meant_kind kind.Present v
-unfolding staged_f via enum ◌∣◌ nothing
-kind_present n z (Staged.Present x) e = (x, refl)
-kind_present n z Staged.Unread e = absurd (omega arith)
-kind_present n z Staged.Removed e = absurd (omega arith)
+  pub entry_unread : get_or w (9221 + 1 + i * 916 + 33) 0 ≡ 1 → StagedAt i w answer.Unread
+  unfolding case_of
+  entry_unread z = record { is = λ s h. (here s h).1 z; room = tt }
 
-pub kind_is_unread : (n : ℕ) → n ≡ 1 → (v : Staged) → n ≡ get_or (staged_f.enc v) 0 0 → meant_kind kind.Unread v
-unfolding staged_f via enum ◌∣◌ nothing
-kind_is_unread n z (Staged.Present x) e = absurd (omega arith)
-kind_is_unread n z Staged.Unread e = refl
-kind_is_unread n z Staged.Removed e = absurd (omega arith)
-
-pub kind_removed : (n : ℕ) → (n ≡ 0 → ⊥) → (n ≡ 1 → ⊥) → (v : Staged) → n ≡ get_or (staged_f.enc v) 0 0 → meant_kind kind.Removed v
-unfolding staged_f via enum ◌∣◌ nothing
-kind_removed n y z (Staged.Present x) e = absurd (y e)
-kind_removed n y z Staged.Unread e = absurd (z e)
-kind_removed n y z Staged.Removed e = refl
+  pub entry_removed : (get_or w (9221 + 1 + i * 916 + 33) 0 ≡ 0 → ⊥) → (get_or w (9221 + 1 + i * 916 + 33) 0 ≡ 1 → ⊥) → StagedAt i w answer.Removed
+  unfolding case_of
+  entry_removed y z = record { is = λ s h. (here s h).2 y z; room = tt }

@@ -9,8 +9,8 @@ use Rattle.model.specs.Formats.{event_f}
 use Rattle.state.specs.Layout.{field, pass_of}
 use Rattle.state.specs.Setters.{pass_changed}
 use Rattle.state.specs.Contract.{state_length, Keeps}
-use Rattle.staged.specs.declared.StagedKind.{StagedKind}
-use Rattle.staged.specs.declared.StagedKind.TheVariants as kind
+use Rattle.staged.specs.declared.Staged.{Staged as Answer}
+use Rattle.staged.specs.declared.Staged.TheVariants as answer
 
 -- the staged entries: none where no pass is open
 abbrev pub staged_of : SyncState → Map ResourceId Staged
@@ -32,17 +32,19 @@ without_stage name = pass_changed (λ p. with_staged (remove by_name name p.stag
 abbrev pub staged_at : ℕ → SyncState → ResourceId × Staged
 staged_at i s = get_or (staged_of s) i ([], Staged.Unread)
 
--- what an answer of `staged_kind` says of an entry; its event stands where `staged_event` answers
-abbrev pub meant_kind : StagedKind → Staged → Type 0
-meant_kind kind.Present v = (e : ProviderEvent) × (v ≡ Staged.Present e)
-meant_kind kind.Unread v = v ≡ Staged.Unread
-meant_kind kind.Removed v = v ≡ Staged.Removed
+-- what an answer of `entry` says of an entry: if it is an event, that stands, zero padded, in the 882 bytes at p
+abbrev pub Meant : List ℕ → Answer → Staged → Type 0
+Meant w (answer.Present p) v = (e : ProviderEvent) × (v ≡ Staged.Present e) × (event_f.Ok e) × (take 882 (drop p w) ≡ field 882 event_f e)
+Meant w answer.Unread v = v ≡ Staged.Unread
+Meant w answer.Removed v = v ≡ Staged.Removed
 
--- the kind of entry i
-pub record KindAt (i : ℕ) (w : List ℕ) (r : StagedKind) : Type 0 where
-  pub is : (s : SyncState) → Keeps s w → meant_kind r (staged_at i s).1
+-- those bytes are in the state's
+abbrev pub Inside : Answer → Type 0
+Inside (answer.Present p) = p + 882 ≤ state_length
+Inside answer.Unread = Unit {0}
+Inside answer.Removed = Unit {0}
 
--- if entry i is an event, it stands, zero padded, in the 882 bytes at p
-pub record StagedAt (i : ℕ) (w : List ℕ) (p : ℕ) : Type 0 where
-  pub is : (s : SyncState) → Keeps s w → (e : ProviderEvent) → (staged_at i s).1 ≡ Staged.Present e → (event_f.Ok e) × (take 882 (drop p w) ≡ field 882 event_f e)
-  pub room : p + 882 ≤ state_length
+-- what is staged as entry i
+pub record StagedAt (i : ℕ) (w : List ℕ) (r : Answer) : Type 0 where
+  pub is : (s : SyncState) → Keeps s w → Meant w r (staged_at i s).1
+  pub room : Inside r

@@ -17,11 +17,5 @@ fn with_digit(n: usize, digit: u8) -> usize {
 
 // The decimal number; what is no digit is passed over.
 pub fn number_of(digits: &[u8]) -> usize {
-    let mut n = 0;
-    let mut i = 0;
-    while i < digits.len() {
-        n = with_digit(n, digits[i]);
-        i += 1;
-    }
-    n
+    digits.iter().fold(0, |n, digit| with_digit(n, *digit))
 }

@@ -77,11 +77,9 @@ fn walk(list: &[u8])
     let mut bytes = [0u8; ROOM];
     let mut frame = [0u8; lines::MAX_FRAME];
     let mut n = 0;
-    let mut from = 0;
-    while from < list.len() {
-        let to = lines::line_end(list, from);
-        n = one(&mut bytes, &mut frame, n, &list[from..to]);
-        from = to + 1;
+    for line in list.split_inclusive(|b| *b == lines::LINE_FEED) {
+        let line = line.strip_suffix(b"\n").unwrap_or(line);
+        n = one(&mut bytes, &mut frame, n, line);
     }
 }
 

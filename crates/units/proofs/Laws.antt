@@ -4,20 +4,20 @@ use native.Mathlib.Omega.{arith}
 use native.Mathlib.Numerals.{add-one}
 use mathlib.Core.Path.{◌≡◌, refl, sym, ap, ◌∙◌}
 use mathlib.Core.List.{List, [], ◌∷◌, ◌++◌, append-nil, append_assoc}
-use mathlib.Core.Bool.{Bool, true, false}
+use mathlib.Core.Bool.{Bool, true}
 use borrow.Author.Tests.{eq-eqb, ne_eqb}
 use Rattle.format.specs.Format.{below, option, list}
 use Rattle.model.specs.Limits.{max_attendees}
 use Rattle.model.specs.Formats.{short_text, tag, organizer_f, attendee_f}
-use Rattle.model.specs.Merge.{Verdict, verdict}
+use Rattle.model.specs.Merge.{Verdict}
 use Rattle.frame.proofs.Chains.{skips_status, skips_transparency, skips_visibility}
 use Rattle.frame.specs.Read.{skips, start}
 use Rattle.frame.specs.declared.Cursor.{Cursor}
-use Rattle.comparison.specs.Bytes.{raw, is_ours, is_conflict, is_refused, span}
+use Rattle.comparison.specs.Bytes.{is_conflict, is_refused, span}
 use Rattle.pens.specs.Writing.{Wrote, Listed}
 use Rattle.pens.specs.declared.Pen.{Pen}
-use Rattle.pens.proofs.Laws.{listed_one, listed_none}
-use Rattle.units.specs.Units.{skip_unit, unit_at, unit_bytes, unit_items, units_items, unit_conflict, value_item, conflict_items, refused_items, owned_unit}
+use Rattle.pens.proofs.Laws.{listed_one}
+use Rattle.units.specs.Units.{skip_unit, unit_at, unit_bytes, unit_items, units_items, unit_conflict, conflict_items, refused_items, owned_unit}
 
 pub owned_ten : (owner : Bool) (k : ℕ) → k ≡ 10 → true ≡ owned_unit owner k
 owned_ten owner k h = rw (eq-eqb k 10 h)
@@ -72,38 +72,12 @@ at_next s j c d e f = rw (add-one j) (f ∙ ap (skip_unit j s) e)
 -- what a unit writes
 
 module _ {a b : List ℕ} {p q : Pen} {n m : ℕ} where
-  pub value_ours : (v : Verdict) (o t : List ℕ) → is_ours v ≡ true → Wrote a b p q o → (n < 255 → m ≡ n + 1) → Listed a b p n q m (value_item v o t ∷ [])
-  value_ours v o t e W h = rw e (listed_one n m W h)
-
-  pub value_theirs : (v : Verdict) (o t : List ℕ) → is_ours v ≡ false → Wrote a b p q t → (n < 255 → m ≡ n + 1) → Listed a b p n q m (value_item v o t ∷ [])
-  value_theirs v o t e W h = rw e (listed_one n m W h)
-
   pub conflict_some : (v : Verdict) (k : ℕ) (x y z : List ℕ) → is_conflict v ≡ true → Wrote a b p q (unit_conflict k x y z) → (n < 255 → m ≡ n + 1)
       → Listed a b p n q m (conflict_items v k x y z)
   conflict_some v k x y z e W h = rw e (listed_one n m W h)
 
   pub refused_some : (v : Verdict) (k : ℕ) → is_refused v ≡ true → Wrote a b p q (k ∷ 0 ∷ []) → (n < 255 → m ≡ n + 1) → Listed a b p n q m (refused_items v k)
   refused_some v k e W h = rw e (listed_one n m W h)
-
-module _ (s : List ℕ) (p : Pen) (n : ℕ) where
-  pub conflict_none : (v : Verdict) (k : ℕ) (x y z : List ℕ) → is_conflict v ≡ false → Listed s s p n p n (conflict_items v k x y z)
-  conflict_none v k x y z e = rw e (listed_none s p n)
-
-  pub refused_none : (v : Verdict) (k : ℕ) → is_refused v ≡ false → Listed s s p n p n (refused_items v k)
-  refused_none v k e = rw e (listed_none s p n)
-
-module _ (which k : ℕ) (b o t : List ℕ) (owned : Bool) (v : Verdict) (e : v ≡ verdict raw b o t owned) where
-  pub unit_value : which ≡ 0 → (value_item v o t ∷ []) ≡ unit_items which k b o t owned
-  unfolding unit_items
-  unit_value h = rw (e, eq-eqb which 0 h)
-
-  pub unit_conflict_lem : (which ≡ 0 → ⊥) → which ≡ 1 → conflict_items v k b o t ≡ unit_items which k b o t owned
-  unfolding unit_items
-  unit_conflict_lem g h = rw (e, ne_eqb which 0 g, eq-eqb which 1 h)
-
-  pub unit_refused : (which ≡ 0 → ⊥) → (which ≡ 1 → ⊥) → refused_items v k ≡ unit_items which k b o t owned
-  unfolding unit_items
-  unit_refused g h = rw (e, ne_eqb which 0 g, ne_eqb which 1 h)
 
 -- the loop over the units
 

@@ -3,10 +3,11 @@
 
 ghost use Rattle.std.specs.Prelude.{◌≡◌, [], ◌∷◌, ◌-◌};
 ghost use Rattle.comparison.specs.Bytes.{meant_verdict};
+ghost use Rattle.comparison.specs.Which.{number_of};
 ghost use Rattle.pens.specs.Writing.{Wrote, Listed};
 ghost use Rattle.units.specs.Units.{value_item, conflict_items, refused_items, unit_items, owned_unit, skip_unit, unit_at, unit_bytes, units_items};
 
-use comparison::{CONFLICTS, MERGED, Verdict};
+use comparison::{Verdict, Which};
 use frame::Cursor;
 use pens::{Pen, Sheet};
 
@@ -74,26 +75,25 @@ pub fn unit_part(s: &[u8], k: u8) -> &[u8]
 }
 
 // Writes what one unit, no attendee, has of the merged fields, of the conflicts or of the refused, by which is asked for.
+#[tactic(auto, unfolding(crate::specs::Units::unit_items))]
 fn unit(
     sheet: Sheet,
     out: &mut [u8],
-    which: u8,
+    which: Which,
     k: u8,
     b: &[u8],
     o: &[u8],
     t: &[u8],
     owned: bool,
 ) -> Sheet
-    ensures { Listed out.old out.new sheet.pen sheet.count result.pen result.count (unit_items which k b.now o.now t.now owned) }
+    ensures { Listed out.old out.new sheet.pen sheet.count result.pen result.count (unit_items (number_of which) k b.now o.now t.now owned) }
 {
     let v = comparison::verdict_of(b, o, t, owned);
-    if which == MERGED {
-        return unit_value(sheet, out, v, o, t);
+    match which {
+        Which::Merged => unit_value(sheet, out, v, o, t),
+        Which::Conflicts => unit_conflict(sheet, out, v, k, b, o, t),
+        Which::Refused => unit_refused(sheet, out, v, k),
     }
-    if which == CONFLICTS {
-        return unit_conflict(sheet, out, v, k, b, o, t);
-    }
-    unit_refused(sheet, out, v, k)
 }
 
 fn unit_value(sheet: Sheet, out: &mut [u8], v: Verdict, o: &[u8], t: &[u8]) -> Sheet
@@ -101,7 +101,7 @@ fn unit_value(sheet: Sheet, out: &mut [u8], v: Verdict, o: &[u8], t: &[u8]) -> S
 {
     let pen = sheet.pen;
     let count = sheet.count;
-    if comparison::is_ours(v) {
+    if v == Verdict::Ours {
         let p = pen.part(out, o);
         let n = pens::more(count);
         return Sheet { pen: p, count: n };
@@ -132,7 +132,7 @@ fn unit_conflict(
 {
     let pen = sheet.pen;
     let count = sheet.count;
-    if !comparison::is_conflict(v) {
+    if v != Verdict::Conflict {
         return sheet;
     }
     let p = pen.byte(out, k).byte(out, 0);
@@ -148,7 +148,7 @@ fn unit_refused(sheet: Sheet, out: &mut [u8], v: Verdict, k: u8) -> Sheet
 {
     let pen = sheet.pen;
     let count = sheet.count;
-    if !comparison::is_refused(v) {
+    if v != Verdict::Refused {
         return sheet;
     }
     let p = pen.byte(out, k).byte(out, 0);
@@ -160,7 +160,7 @@ fn unit_refused(sheet: Sheet, out: &mut [u8], v: Verdict, k: u8) -> Sheet
 pub fn units(
     sheet: Sheet,
     out: &mut [u8],
-    which: u8,
+    which: Which,
     from: u8,
     to: u8,
     base: &[u8],
@@ -168,7 +168,7 @@ pub fn units(
     theirs: &[u8],
     owner: bool,
 ) -> Sheet
-    ensures { Listed out.old out.new sheet.pen sheet.count result.pen result.count (units_items which owner base.now ours.now theirs.now from (to - from)) }
+    ensures { Listed out.old out.new sheet.pen sheet.count result.pen result.count (units_items (number_of which) owner base.now ours.now theirs.now from (to - from)) }
 {
     let mut b = unit_at(base, from);
     let mut o = unit_at(ours, from);

@@ -1,24 +1,25 @@
 -- The version of an event: where its parts stand, and how two compare. Assumes nothing.
+use Rattle.std.specs.Prelude.{Option, Some, None}
 use Prim.Native.Nat.{ℕ, suc, ◌+◌, ◌-◌, ◌^◌, ◌≤◌, ◌<◌}
 use native.Mathlib.Omega.{arith}
 use mathlib.Core.Path.{◌≡◌, refl, sym, ap, ap₂, ◌∙◌}
-use mathlib.Core.List.{List, [], ◌∷◌, ◌++◌, append_assoc}
-use mathlib.Core.Option.{Option, none, some}
-use mathlib.Core.Bool.{Bool, true, false, not, ◌&&◌, ◌||◌, or-false}
-use lib.ListN.{length, take, drop, get_or, length-append, length-drop, length-replicate, replicate-append-replicate, take-append-drop}
-use lib.Seq.{take_at, drop_at, drop-drop, drop-append-add, take_all, get_or-drop}
-use lib.Dec.{ltb}
-use borrow.Author.Tests.{le-leb, lt-leb, lt-ltb, le-ltb}
+use mathlib.Core.List.{List, ◌∷◌, ◌++◌, append_assoc}
+use mathlib.Core.Bool.{Bool, true, false, not, ◌&&◌, ◌||◌}
+use lib.ListN.{length, take, drop, get_or, length-append, length-drop, take-append-drop}
+use lib.Seq.{take_at, drop_at, drop-drop, get_or-drop}
+use lib.Dec.{leb, ltb}
 use Rattle.format.specs.Format.{option, via, enum, ◌∣◌, nothing, ◌⊗◌, below, number, big_endian}
 use Rattle.format.specs.Format.{text as text-format}
 use Rattle.format.proofs.FormatLaws.{text_law, option_law}
 use Rattle.format.proofs.SizeLaws.{length_digits}
 use Rattle.spans.specs.Bytes.{zeros}
 use Rattle.spans.specs.Compare.{order}
-use Rattle.spans.proofs.Laws.{drop_zeros}
+use Rattle.std.specs.Prelude.{nat_eq}
+use Rattle.std.specs.Cmp.Lexicographic.{pointwise}
+use Rattle.spans.proofs.Laws.{drop_zeros, same_bytes}
 use Rattle.numbers.specs.Big.{from_be}
 use Rattle.numbers.proofs.Laws as numbers
-use Rattle.tables.specs.Table.{against, is_equal}
+use Rattle.tables.specs.Table.{is_equal}
 use Rattle.tables.proofs.Laws as tables
 use Rattle.model.specs.Event.{Text, ProviderEvent}
 use Rattle.model.specs.Limits.{max_text}
@@ -30,7 +31,7 @@ use Rattle.model.proofs.ValidParts.{event_revision}
 use Rattle.state.specs.Layout.{padded, field}
 use Rattle.state.proofs.Orders.{to_digits}
 use Rattle.state.proofs.Widths.{cursor_within}
-use Rattle.state.proofs.Padded.{length_field, field_same}
+use Rattle.state.proofs.Padded.{field_same}
 use Rattle.state.proofs.Ops.{same_self, equal_same}
 use Rattle.versions.specs.Versions.{Stands, HasEvent, VersionOf, RevisionAt}
 
@@ -60,10 +61,10 @@ OptionPlace b p r = (get_or b p 0 ≡ 0 → r ≡ p + 1) × ((get_or b p 0 ≡ 0
 
 option_place : (n p r : ℕ) (b y : List ℕ) (o : Option Text) → drop p b ≡ (option (text-format n)).enc o ++ y → OptionPlace b p r → r ≡ p + length ((option (text-format n)).enc o)
 unfolding option via enum ◌∣◌ nothing text-format
-option_place n p r b y none e f =
+option_place n p r b y None e f =
     let z : p ≡ p + 0 = omega arith in
     f.0 (ap (λ (j : ℕ). get_or b j 0) z ∙ byte_at p 0 b (0 ∷ y) e)
-option_place n p r b y (some t) e f =
+option_place n p r b y (Some t) e f =
     let z : p ≡ p + 0 = omega arith in
     let h : get_or b p 0 ≡ 1 = ap (λ (j : ℕ). get_or b j 0) z ∙ byte_at p 0 b (1 ∷ (length t ∷ (t ++ y))) e in
     let k : get_or b (p + 1) 0 ≡ length t = byte_at p 1 b (1 ∷ (length t ∷ (t ++ y))) e in
@@ -197,12 +198,11 @@ version_is e b revision p r mapper ok U f q m =
     let d : take 4 (drop r b) ≡ big_endian 4 e.mapper_version = ap (take 4) (past_option _ p r b _ e.revision U.is f) ∙ take_at (big_endian 4 e.mapper_version) U.rest 4 (length_digits 4 e.mapper_version) in
     record { revision_is = q ∙ ap (padded 34) t; mapper_is = m ∙ ap (from_be 0) (d ∙ sym (to_digits 4 e.mapper_version)) ∙ numbers.from_to 4 e.mapper_version (mapper_ok e ok) }
 
-pub padded_is : (from to : ℕ) (b r : List ℕ) → from ≤ to → to ≤ length b → r ≡ take (to - from) (drop from b) ++ drop (length (take (to - from) (drop from b))) (zeros 34) → to ≤ from + 34 → r ≡ padded 34 (take (to - from) (drop from b))
+pub padded_is : (from to : ℕ) (b y : List ℕ) → from ≤ to → to ≤ length b → to ≤ from + 34 → y ≡ take (to - from) (drop from b) → y ++ drop (to - from) (zeros 34) ≡ padded 34 (take (to - from) (drop from b))
 unfolding padded
-padded_is from to b r h k e l =
-    let x : List ℕ = take (to - from) (drop from b) in
-    let n : length x ≡ to - from = tables.part_length b from (to - from) (omega arith) in
-    e ∙ ap (λ (y : List ℕ). x ++ y) (drop_zeros (length x) 34 (omega arith))
+padded_is from to b y h k l e =
+    let n : length (take (to - from) (drop from b)) ≡ to - from = tables.part_length b from (to - from) (omega arith) in
+    rw (e, n, drop_zeros (to - from) 34 (omega arith))
 
 -- ---- two versions
 
@@ -221,73 +221,30 @@ revisions_same a b p q = equal_same (Rev a) (Rev b) ∙ go (same_text ((option s
         no false z = refl
         no true z = absurd (tables.false_true (sym e ∙ same_self _ _ (ap (option short_text).enc (field_same 34 (option_law (text_law max_text)) a b p q (sym (same_true _ _ z))))))
 
-against_all : (x y : List ℕ) → length x ≡ 34 → length y ≡ 34 → is_equal (against 0 y x) ≡ is_equal (order x y)
-against_all x y l k = ap (λ (z : List ℕ). is_equal (order z y)) (take_all (length y) x (omega arith))
+bytes_same : (e h : ProviderEvent) (x y : List ℕ) (r : Bool) → event_f.Ok e → event_f.Ok h → x ≡ Rev e.revision → y ≡ Rev h.revision → r ≡ pointwise nat_eq x y → r ≡ same (option short_text) e.revision h.revision
+bytes_same e h x y r a b p q s =
+    s ∙ same_bytes x y ∙ ap₂ (λ (u v : List ℕ). is_equal (order u v)) p q ∙ revisions_same e.revision h.revision (event_revision e a) (event_revision h b)
 
-rev_long : (e : ProviderEvent) (x : List ℕ) → event_f.Ok e → x ≡ Rev e.revision → length x ≡ 34
-rev_long e x ok q = ap length q ∙ length_field cursor_within e.revision (event_revision e ok)
-
-pub version_long : (e : ProviderEvent) (x : List ℕ) (m : ℕ) → event_f.Ok e → VersionOf e x m → length x ≡ 34
-version_long e x m ok D = rev_long e x ok D.revision_is
-
-stands_same : (e h : ProviderEvent) (x y : List ℕ) (r : Bool) → event_f.Ok e → event_f.Ok h → x ≡ Rev e.revision → y ≡ Rev h.revision → r ≡ is_equal (against 0 y x) → r ≡ same (option short_text) e.revision h.revision
-stands_same e h x y r a b p q s =
-    s ∙ against_all x y (rev_long e x a p) (rev_long h y b q) ∙ ap₂ (λ (u v : List ℕ). is_equal (order u v)) p q ∙ revisions_same e.revision h.revision (event_revision e a) (event_revision h b)
-
-or-true : (b : Bool) → (b || true) ≡ true
-or-true true = refl
-or-true false = refl
-
+-- which mapper is newer, and whether the revisions differ
 module _ (x y : List ℕ) (m n : ℕ) (e h : ProviderEvent) (E : VersionOf e x m) (H : VersionOf h y n) where
-  pub older : m < n → false ≡ replaces e h
+  pub replaces_is : {a d : Bool} → event_f.Ok e → event_f.Ok h → leb n m ≡ a → d ≡ not (pointwise nat_eq x y) → (a && (d || ltb n m)) ≡ replaces e h
   unfolding replaces
-  older l =
-      let a = E.mapper_is in
-      let b = H.mapper_is in
-      let c : e.mapper_version < h.mapper_version = omega arith in
-      sym (ap (λ (d : Bool). d && (not (same (option short_text) e.revision h.revision) || ltb h.mapper_version e.mapper_version)) (lt-leb h.mapper_version e.mapper_version c))
-
-  pub newer : n < m → true ≡ replaces e h
-  unfolding replaces
-  newer l =
-      let a = E.mapper_is in
-      let b = H.mapper_is in
-      let c : h.mapper_version < e.mapper_version = omega arith in
-      let d : h.mapper_version ≤ e.mapper_version = omega arith in
-      sym (ap₂ (λ (u v : Bool). u && (not (same (option short_text) e.revision h.revision) || v)) (le-leb h.mapper_version e.mapper_version d) (lt-ltb h.mapper_version e.mapper_version c)
-      ∙ or-true (not (same (option short_text) e.revision h.revision)))
-
-  pub equal : (r : Bool) → event_f.Ok e → event_f.Ok h → n ≤ m → m ≤ n → r ≡ is_equal (against 0 y x) → not r ≡ replaces e h
-  unfolding replaces
-  equal r p q k l s =
-      let a = E.mapper_is in
-      let b = H.mapper_is in
-      let c : h.mapper_version ≤ e.mapper_version = omega arith in
-      let d : e.mapper_version ≤ h.mapper_version = omega arith in
-      sym (ap₂ (λ (u v : Bool). u && (not (same (option short_text) e.revision h.revision) || v)) (le-leb h.mapper_version e.mapper_version c) (le-ltb h.mapper_version e.mapper_version d)
-      ∙ or-false (not (same (option short_text) e.revision h.revision)) ∙ ap not (sym (stands_same e h x y r p q E.revision_is H.revision_is s)))
+  replaces_is p q f g = rw (← f, g, E.mapper_is, H.mapper_is, bytes_same e h x y _ p q E.revision_is H.revision_is refl)
 
 -- a revision's text in 34 bytes
-pub revision_put : (text r1 r2 : List ℕ) → short_text.Ok text → r1 ≡ take 0 (zeros 34) ++ ((1 ∷ length text ∷ []) ++ drop (0 + 2) (zeros 34)) → r2 ≡ take 2 r1 ++ (text ++ drop (2 + length text) r1) → r2 ≡ Rev (some text)
+pub revision_put : (text y : List ℕ) → short_text.Ok text → y ≡ text → 1 ∷ (length text ∷ (y ++ drop (2 + length text - 2) (zeros 32))) ≡ Rev (Some text)
 unfolding padded option via enum ◌∣◌ text-format max_text
-revision_put text r1 r2 ok p q =
+revision_put text y ok e =
     let l : length text ≤ 32 = ok.0 in
-    let e : 32 ≡ length text + (32 - length text) = omega arith in
-    let z : zeros 32 ≡ zeros (length text) ++ zeros (32 - length text) = ap zeros e ∙ sym (replicate-append-replicate (length text) (32 - length text) 0) in
-    let m : List ℕ = 1 ∷ length text ∷ [] in
-    let c : r1 ≡ m ++ (zeros (length text) ++ zeros (32 - length text)) = p ∙ ap (λ (x : List ℕ). m ++ x) z in
-    let t : take 2 r1 ≡ m = ap (take 2) c in
-    let d : drop (2 + length text) r1 ≡ zeros (32 - length text) =
-    ap (drop (2 + length text)) c ∙ drop-append-add m (zeros (length text) ++ zeros (32 - length text)) (length text) ∙ drop_at (zeros (length text)) (zeros (32 - length text)) (length text) (length-replicate (length text) 0) in
-    let n : 32 - length text ≡ 34 - suc (suc (length text)) = omega arith in
-    q ∙ ap₂ (λ (x y : List ℕ). x ++ (text ++ y)) t (d ∙ ap zeros n)
+    let a : 2 + length text - 2 ≡ length text = omega arith in
+    let b : 34 - suc (suc (length text)) ≡ 32 - length text = omega arith in
+    rw (e, a, b, drop_zeros (length text) 32 l)
 
 pub text_short : (text : List ℕ) → short_text.Ok text → length text ≤ 32
 unfolding text-format max_text
 text_short text ok = ok.0
 
-pub has_is : (h : ProviderEvent) (x text y : List ℕ) (m : ℕ) (r : Bool) → event_f.Ok h → VersionOf h x m → short_text.Ok text → y ≡ Rev (some text) → r ≡ is_equal (against 0 y x) → r ≡ same (option short_text) h.revision (some text)
+pub has_is : (h : ProviderEvent) (x text y : List ℕ) (m : ℕ) (r : Bool) → event_f.Ok h → VersionOf h x m → short_text.Ok text → y ≡ Rev (Some text) → r ≡ pointwise nat_eq x y → r ≡ same (option short_text) h.revision (Some text)
 unfolding option via enum ◌∣◌
 has_is h x text y m r ok D t q s =
-    s ∙ against_all x y (rev_long h x ok D.revision_is) (ap length q ∙ length_field cursor_within (some text) t) ∙ ap₂ (λ (u v : List ℕ). is_equal (order u v)) D.revision_is q
-    ∙ revisions_same h.revision (some text) (event_revision h ok) t
+    s ∙ same_bytes x y ∙ ap₂ (λ (u v : List ℕ). is_equal (order u v)) D.revision_is q ∙ revisions_same h.revision (Some text) (event_revision h ok) t

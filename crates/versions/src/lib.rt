@@ -1,8 +1,7 @@
 // The version of an event, by value: what is compared when one event may take another's place.
 #![tactic(auto)]
 
-ghost use Rattle.std.specs.Prelude.{◌≡◌, ◌+◌, ◌-◌, ◌≤◌, ◌<◌, length, take, drop, get_or};
-ghost use Rattle.std.proofs.Math.Option.{some};
+ghost use Rattle.std.specs.Prelude.{◌≡◌, ◌+◌, ◌-◌, ◌≤◌, ◌<◌, length, take, drop, get_or, Some};
 ghost use Rattle.format.specs.Format.{option};
 ghost use Rattle.numbers.specs.Big.{from_be};
 ghost use Rattle.model.specs.Event.{ProviderEvent};
@@ -18,19 +17,12 @@ pub struct Version {
     pub mapper: u64,
 }
 
-// A part of at most 34 bytes, zero padded.
-#[derive(Clone, Copy)]
-struct Padded {
-    bytes: [u8; 34],
-}
-
 // The place after the text at `at`.
 fn after_text(buf: &[u8], at: usize) -> usize
     requires { at < length buf.now }
     ensures { result ≡ at + 1 + get_or buf.now at 0 }
 {
-    let n = buf[at] as usize;
-    at + 1 + n
+    at + 1 + usize::from(buf[at])
 }
 
 // The place after the text at `at` that may be missing.
@@ -38,28 +30,32 @@ fn after_option(buf: &[u8], at: usize) -> usize
     requires { at + 1 < length buf.now }
     ensures { (get_or buf.now at 0 ≡ 0 → result ≡ at + 1) × ((get_or buf.now at 0 ≡ 0 → ⊥) → result ≡ at + 1 + 1 + get_or buf.now (at + 1) 0) }
 {
-    let first = buf[at];
-    if first == 0 {
-        return at + 1;
+    if buf[at] == 0 {
+        at + 1
+    } else {
+        after_text(buf, at + 1)
     }
-    after_text(buf, at + 1)
 }
 
-fn padded_part(buf: &[u8], from: usize, to: usize) -> Padded
+// A part of at most 34 bytes, zero padded.
+#[tactic(auto, using(crate::proofs::Laws::padded_is))]
+fn padded_part(buf: &[u8], from: usize, to: usize) -> [u8; 34]
     requires { (from ≤ to) × (to ≤ length buf.now) × (to ≤ from + 34) }
-    ensures { result.bytes ≡ padded 34 (take (to - from) (drop from buf.now)) }
+    ensures { result ≡ padded 34 (take (to - from) (drop from buf.now)) }
 {
-    let mut bytes = [0u8; 34];
-    spans::copy_into(&mut bytes, &buf[from..to]);
-    Padded { bytes }
+    let mut bytes = [0; 34];
+    bytes[..to - from].copy_from_slice(&buf[from..to]);
+    bytes
 }
 
+#[tactic(auto, using(numbers::proofs::Laws::from_is_4))]
 fn read_four(buf: &[u8], at: usize) -> u64
     requires { at + 4 ≤ length buf.now }
     ensures { result ≡ from_be 0 (take 4 (drop at buf.now)) }
 {
-    let end = at + 4;
-    numbers::read_be(&buf[at..end])
+    let mut bytes = [0; 4];
+    bytes.copy_from_slice(&buf[at..at + 4]);
+    u64::from(u32::from_be_bytes(bytes))
 }
 
 // Where the revision of the event at `at` stands: behind the provider's byte, a text and two that may be missing.
@@ -80,44 +76,27 @@ pub fn version_at(buf: &[u8], at: usize) -> Version
 {
     let from = revision_place(buf, at);
     let to = after_option(buf, from);
-    let part = padded_part(buf, from, to);
-    let revision = part.bytes;
+    let revision = padded_part(buf, from, to);
     let mapper = read_four(buf, to);
     Version { revision, mapper }
 }
 
 // Whether a record's event gives way to a new one.
 pub fn takes_place(new: Version, held: Version) -> bool
-    requires { (length new.revision ≡ 34) × (length held.revision ≡ 34) }
     ensures { (e h : ProviderEvent) → event_f.Ok e → event_f.Ok h → VersionOf e new.revision new.mapper → VersionOf h held.revision held.mapper → result ≡ replaces e h }
 {
-    let after = new.mapper;
-    let before = held.mapper;
-    if after < before {
-        return false;
-    }
-    if before < after {
-        return true;
-    }
-    let a = new.revision;
-    let b = held.revision;
-    if tables::stands(&a, 0, &b) {
-        return false;
-    }
-    true
+    held.mapper <= new.mapper && (new.revision != held.revision || held.mapper < new.mapper)
 }
 
 // Whether an event has this revision.
+#[tactic(auto, using(crate::proofs::Laws::text_short))]
 pub fn has_revision(held: Version, revision: &[u8]) -> bool
-    requires revision_len { length held.revision ≡ 34 }
-    requires ok { short_text.Ok revision.now }
-    ensures { (h : ProviderEvent) → event_f.Ok h → VersionOf h held.revision held.mapper → result ≡ same (option short_text) h.revision (some revision.now) }
+    requires { short_text.Ok revision.now }
+    ensures { (h : ProviderEvent) → event_f.Ok h → VersionOf h held.revision held.mapper → result ≡ same (option short_text) h.revision (Some revision.now) }
 {
-    let n = revision.len() as u8;
-    let marks = [1, n];
-    let mut bytes = [0u8; 34];
-    tables::put_slot(&mut bytes, 0, &marks);
-    tables::put_slot(&mut bytes, 2, revision);
-    let a = held.revision;
-    tables::stands(&a, 0, &bytes)
+    let mut bytes = [0; 34];
+    bytes[0] = 1;
+    bytes[1] = revision.len() as u8;
+    bytes[2..2 + revision.len()].copy_from_slice(revision);
+    held.revision == bytes
 }

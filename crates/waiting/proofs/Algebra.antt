@@ -1,9 +1,10 @@
 -- One queue put after another: the laws that sequences of edits of the queues come down to. Assumes nothing.
+use Rattle.std.specs.Prelude.{Option, Some, None}
+use Rattle.format.proofs.Options.{Some-injective, None-ne-Some}
 use Prim.Native.Nat.{◌<◌, Ordering}
 use native.Mathlib.Omega.{arith}
 use mathlib.Core.Path.{◌≡◌, refl, sym, ap, ap₂, subst}
 use mathlib.Core.List.{[], ◌∷◌}
-use mathlib.Core.Option.{Option, none, some, some-injective, none-ne-some}
 use mathlib.Core.Bool.{true, false}
 use lib.ListN.{length}
 use lib.Dec.{T}
@@ -67,28 +68,28 @@ out_twice k (e ∷ m) t =
     (λ l h. rw (h, h) (ap (λ (x : Queues). e ∷ x) (out_twice k m (orders.rising_tail by_name orders.name_order e.0 m t)))) refl
 
 -- what is there put again, and what is not there taken out
-insert_same : (k : ResourceId) (a : Queue) (m : Queues) → get by_name k m ≡ some a → insert by_name k a m ≡ m
+insert_same : (k : ResourceId) (a : Queue) (m : Queues) → get by_name k m ≡ Some a → insert by_name k a m ≡ m
 unfolding get insert by
-insert_same k a [] g = absurd (none-ne-some a g)
+insert_same k a [] g = absurd (None-ne-Some a g)
 insert_same k a (e ∷ m) g =
-    ordering_cases (λ o. by_name k e.0 ≡ o → by o none (some e.1) (get by_name k m) ≡ some a → by o ((k, a) ∷ e ∷ m) ((k, a) ∷ m) (e ∷ insert by_name k a m) ≡ e ∷ m) (by_name k e.0)
-    (λ l h f. absurd (none-ne-some a f))
-    (λ l h f. ap₂ (λ (x : ResourceId) (y : Queue). (x, y) ∷ m) (orders.by_name_same k e.0 h) (sym (some-injective e.1 a f)))
+    ordering_cases (λ o. by_name k e.0 ≡ o → by o None (Some e.1) (get by_name k m) ≡ Some a → by o ((k, a) ∷ e ∷ m) ((k, a) ∷ m) (e ∷ insert by_name k a m) ≡ e ∷ m) (by_name k e.0)
+    (λ l h f. absurd (None-ne-Some a f))
+    (λ l h f. ap₂ (λ (x : ResourceId) (y : Queue). (x, y) ∷ m) (orders.by_name_same k e.0 h) (sym (Some-injective e.1 a f)))
     (λ l h f. ap (λ (x : Queues). e ∷ x) (insert_same k a m f)) refl g
 
-remove_none : (k : ResourceId) (m : Queues) → get by_name k m ≡ none → remove by_name k m ≡ m
+remove_none : (k : ResourceId) (m : Queues) → get by_name k m ≡ None → remove by_name k m ≡ m
 unfolding get remove by
 remove_none k [] g = refl
 remove_none k (e ∷ m) g =
-    ordering_cases (λ o. by_name k e.0 ≡ o → by o none (some e.1) (get by_name k m) ≡ none → by o (e ∷ m) m (e ∷ remove by_name k m) ≡ e ∷ m) (by_name k e.0)
-    (λ l h f. refl) (λ l h f. absurd (none-ne-some e.1 (sym f))) (λ l h f. ap (λ (x : Queues). e ∷ x) (remove_none k m f)) refl g
+    ordering_cases (λ o. by_name k e.0 ≡ o → by o None (Some e.1) (get by_name k m) ≡ None → by o (e ∷ m) m (e ∷ remove by_name k m) ≡ e ∷ m) (by_name k e.0)
+    (λ l h f. refl) (λ l h f. absurd (None-ne-Some e.1 (sym f))) (λ l h f. ap (λ (x : Queues). e ∷ x) (remove_none k m f)) refl g
 
-some_there : (k : ResourceId) (a : Queue) (m : Queues) → All (QueueFits document01) m → get by_name k m ≡ some a → 0 < length a
+some_there : (k : ResourceId) (a : Queue) (m : Queues) → All (QueueFits document01) m → get by_name k m ≡ Some a → 0 < length a
 unfolding get by
-some_there k a [] f g = absurd (none-ne-some a g)
+some_there k a [] f g = absurd (None-ne-Some a g)
 some_there k a (e ∷ m) f g =
-    ordering_cases (λ o. by o none (some e.1) (get by_name k m) ≡ some a → 0 < length a) (by_name k e.0)
-    (λ l h. absurd (none-ne-some a h)) (λ l h. subst (λ (q : Queue). 0 < length q) (some-injective e.1 a h) f.0.some) (λ l h. some_there k a m f.1 h) g
+    ordering_cases (λ o. by o None (Some e.1) (get by_name k m) ≡ Some a → 0 < length a) (by_name k e.0)
+    (λ l h. absurd (None-ne-Some a h)) (λ l h. subst (λ (q : Queue). 0 < length q) (Some-injective e.1 a h) f.0.some) (λ l h. some_there k a m f.1 h) g
 
 -- ---- queues
 
@@ -110,13 +111,13 @@ put_same : (r : ResourceId) (m : Queues) → All (QueueFits document01) m → pu
 unfolding queue_in put_in match◌none:◌some:◌
 put_same r m a = go (get by_name r m) refl
   where
-    with_some : (q : Queue) → get by_name r m ≡ some q → 0 < length q → put_in r q m ≡ m
+    with_some : (q : Queue) → get by_name r m ≡ Some q → 0 < length q → put_in r q m ≡ m
     with_some [] g l = absurd (omega arith)
     with_some (p ∷ q) g l = insert_same r (p ∷ q) m g
 
     go : (o : Option Queue) → get by_name r m ≡ o → put_in r (match get by_name r m none: [] some: (λ q. q)) m ≡ m
-    go none g = rw g (remove_none r m g)
-    go (some q) g = rw g (with_some q g (some_there r q m a g))
+    go None g = rw g (remove_none r m g)
+    go (Some q) g = rw g (with_some q g (some_there r q m a g))
 
 pub put_own : (s : SyncState) → Fits document01 s → (r : ResourceId) → put_queue r (queue r s) s ≡ s
 put_own s f r = ap (λ (m : Queues). with_edits m s) (put_same r s.edits f.edits.each)

@@ -2,17 +2,17 @@
 -- of its own. Assumes nothing.
 use Prim.Native.Nat.{Ordering}
 use Prim.Native.Nat.{ℕ, suc, ◌+◌, ◌*◌, ◌≤◌}
-use native.Mathlib.Nat.{zero-add, zero-mul, suc-mul}
+use native.Mathlib.Nat.{zero-mul, suc-mul}
 use native.Mathlib.Omega.{arith}
 use mathlib.Core.Path.{◌≡◌, refl, sym, ap, ap₂, ◌∙◌, subst}
 use mathlib.Core.List.{List, [], ◌∷◌, ◌++◌, append_assoc}
-use mathlib.Core.Bool.{Bool, true, false}
+use mathlib.Core.Bool.{true, false, cond}
 use lib.ListN.{length, length-append}
 use lib.Dec.{T}
 use Rattle.format.specs.Format.{All}
 use Rattle.spans.specs.Compare.{order}
-use Rattle.spans.specs.declared.Order.{Order}
-use Rattle.spans.specs.declared.Order.TheVariants.{Less, Equal, Greater}
+use Rattle.std.specs.declared.cmp.Ordering.{Ordering as Rank}
+use Rattle.std.specs.declared.cmp.Ordering.TheVariants.{Less, Equal, Greater}
 use Rattle.tables.specs.Table.{Table, text}
 use Rattle.model.specs.Event.{Text}
 use Rattle.model.specs.Seam.{ResourceId}
@@ -28,8 +28,9 @@ use Rattle.state.specs.Layout.{pending_slot, queue_slots, edit_slots}
 use Rattle.state.specs.Fits.{PendingFits, QueueFits, EditsFit}
 use Rattle.state.proofs.Orders.{flipped, name_order}
 use Rattle.state.proofs.Padded.{text_name}
+use Rattle.std.proofs.lemmas.List.Sums.{sum_by-cons, sum_by-append}
 use Rattle.waiting.specs.Queues.{queue_in, put_in, below}
-use Rattle.waiting.specs.Slots.{counts, tallied}
+use Rattle.waiting.specs.Slots.{is_rank, tallied}
 
 -- ---- slots by their keys
 
@@ -47,10 +48,10 @@ unfolding pending_slot
 slot_key r p = text_name r _
 
 -- how each slot's key compares with r
-abbrev Keyed : Order → ResourceId → Table → Type 0
+abbrev Keyed : Rank → ResourceId → Table → Type 0
 Keyed o r t = All (λ s. order (text s) r ≡ o) t
 
-rows_keyed : (o : Order) (r k : ResourceId) (q : Queue) → order k r ≡ o → Keyed o r (Rows k q)
+rows_keyed : (o : Rank) (r k : ResourceId) (q : Queue) → order k r ≡ o → Keyed o r (Rows k q)
 unfolding map
 rows_keyed o r k [] e = tt
 rows_keyed o r k (p ∷ q) e = (ap (λ (x : Text). order x r) (slot_key k p) ∙ e, rows_keyed o r k q e)
@@ -151,45 +152,41 @@ cut r (e ∷ m) a t =
 
 -- ---- counting by keys
 
-tally_append : (equal : Bool) (b : List ℕ) (t u : Table) → tallied equal b (t ++ u) ≡ tallied equal b t + tallied equal b u
-unfolding tallied
-tally_append equal b [] u = sym (zero-add (tallied equal b u))
-tally_append equal b (s ∷ t) u =
-    let h : tallied equal b (t ++ u) ≡ tallied equal b t + tallied equal b u = tally_append equal b t u in
-    let n : ℕ = counts equal (order (text s) (text b)) in
-    ap (λ (x : ℕ). counts equal (order (text s) (text b)) + x) h ∙ omega arith
-
-tally_keyed : (equal : Bool) (o : Order) (b : List ℕ) (r : ResourceId) (t : Table) → text b ≡ r → Keyed o r t → tallied equal b t ≡ length t * counts equal o
-unfolding tallied
-tally_keyed equal o b r [] e a = sym (zero-mul (counts equal o))
-tally_keyed equal o b r (s ∷ t) e a =
-    let h : tallied equal b t ≡ length t * counts equal o = tally_keyed equal o b r t e a.1 in
+-- slots whose keys all have one rank
+tally_keyed : (rank o : Rank) (b : List ℕ) (r : ResourceId) (t : Table) → text b ≡ r → Keyed o r t → tallied rank b t ≡ length t * cond (is_rank rank o) 1 0
+tally_keyed rank o b r [] e a = sym (zero-mul (cond (is_rank rank o) 1 0))
+tally_keyed rank o b r (s ∷ t) e a =
+    let f : List ℕ → ℕ = λ x. cond (is_rank rank (order (text x) (text b))) 1 0 in
+    let h : tallied rank b t ≡ length t * cond (is_rank rank o) 1 0 = tally_keyed rank o b r t e a.1 in
     let k : order (text s) (text b) ≡ o = ap (order (text s)) e ∙ a.0 in
-    let m : suc (length t) * counts equal o ≡ length t * counts equal o + counts equal o = suc-mul (length t) (counts equal o) in
-    ap₂ (λ (x : Order) (y : ℕ). counts equal x + y) k h ∙ omega arith
+    let m : suc (length t) * cond (is_rank rank o) 1 0 ≡ length t * cond (is_rank rank o) 1 0 + cond (is_rank rank o) 1 0 = suc-mul (length t) (cond (is_rank rank o) 1 0) in
+    sum_by-cons f s t ∙ ap₂ (λ (x : Rank) (y : ℕ). cond (is_rank rank x) 1 0 + y) k h ∙ omega arith
+
+tally_append : (rank : Rank) (b : List ℕ) (t u : Table) → tallied rank b (t ++ u) ≡ tallied rank b t + tallied rank b u
+tally_append rank b t u = sum_by-append (λ x. cond (is_rank rank (order (text x) (text b))) 1 0) t u
 
 -- r's own slots, and those before them
-pub tally_own : (b : List ℕ) (r : ResourceId) (m : Map ResourceId Queue) → text b ≡ r → Cut r m → tallied true b (Flat m) ≡ length (queue_in r m)
+pub tally_own : (b : List ℕ) (r : ResourceId) (m : Map ResourceId Queue) → text b ≡ r → Cut r m → tallied Equal b (Flat m) ≡ length (queue_in r m)
 tally_own b r m e C =
     let q : Queue = queue_in r m in
     let l : length (Rows r q) ≡ length q = length-map (Slot r) q in
-    let x : tallied true b C.pre ≡ length C.pre * 0 = tally_keyed true Less b r C.pre e C.low in
-    let y : tallied true b (Rows r q) ≡ length (Rows r q) * 1 = tally_keyed true Equal b r (Rows r q) e (rows_keyed Equal r r q (name_order r r ∙ ap flipped (orders.by_name_self r))) in
-    let z : tallied true b C.post ≡ length C.post * 0 = tally_keyed true Greater b r C.post e C.high in
-    let d : tallied true b (C.pre ++ (Rows r q ++ C.post)) ≡ tallied true b C.pre + tallied true b (Rows r q ++ C.post) = tally_append true b C.pre (Rows r q ++ C.post) in
-    let f : tallied true b (Rows r q ++ C.post) ≡ tallied true b (Rows r q) + tallied true b C.post = tally_append true b (Rows r q) C.post in
-    ap (tallied true b) C.is ∙ omega arith
+    let x : tallied Equal b C.pre ≡ length C.pre * 0 = tally_keyed Equal Less b r C.pre e C.low in
+    let y : tallied Equal b (Rows r q) ≡ length (Rows r q) * 1 = tally_keyed Equal Equal b r (Rows r q) e (rows_keyed Equal r r q (name_order r r ∙ ap flipped (orders.by_name_self r))) in
+    let z : tallied Equal b C.post ≡ length C.post * 0 = tally_keyed Equal Greater b r C.post e C.high in
+    let d : tallied Equal b (C.pre ++ (Rows r q ++ C.post)) ≡ tallied Equal b C.pre + tallied Equal b (Rows r q ++ C.post) = tally_append Equal b C.pre (Rows r q ++ C.post) in
+    let f : tallied Equal b (Rows r q ++ C.post) ≡ tallied Equal b (Rows r q) + tallied Equal b C.post = tally_append Equal b (Rows r q) C.post in
+    ap (tallied Equal b) C.is ∙ omega arith
 
-pub tally_before : (b : List ℕ) (r : ResourceId) (m : Map ResourceId Queue) → text b ≡ r → Cut r m → tallied false b (Flat m) ≡ below r m
+pub tally_before : (b : List ℕ) (r : ResourceId) (m : Map ResourceId Queue) → text b ≡ r → Cut r m → tallied Less b (Flat m) ≡ below r m
 tally_before b r m e C =
     let q : Queue = queue_in r m in
     let i : length C.pre ≡ below r m = C.first in
-    let x : tallied false b C.pre ≡ length C.pre * 1 = tally_keyed false Less b r C.pre e C.low in
-    let y : tallied false b (Rows r q) ≡ length (Rows r q) * 0 = tally_keyed false Equal b r (Rows r q) e (rows_keyed Equal r r q (name_order r r ∙ ap flipped (orders.by_name_self r))) in
-    let z : tallied false b C.post ≡ length C.post * 0 = tally_keyed false Greater b r C.post e C.high in
-    let d : tallied false b (C.pre ++ (Rows r q ++ C.post)) ≡ tallied false b C.pre + tallied false b (Rows r q ++ C.post) = tally_append false b C.pre (Rows r q ++ C.post) in
-    let f : tallied false b (Rows r q ++ C.post) ≡ tallied false b (Rows r q) + tallied false b C.post = tally_append false b (Rows r q) C.post in
-    ap (tallied false b) C.is ∙ omega arith
+    let x : tallied Less b C.pre ≡ length C.pre * 1 = tally_keyed Less Less b r C.pre e C.low in
+    let y : tallied Less b (Rows r q) ≡ length (Rows r q) * 0 = tally_keyed Less Equal b r (Rows r q) e (rows_keyed Equal r r q (name_order r r ∙ ap flipped (orders.by_name_self r))) in
+    let z : tallied Less b C.post ≡ length C.post * 0 = tally_keyed Less Greater b r C.post e C.high in
+    let d : tallied Less b (C.pre ++ (Rows r q ++ C.post)) ≡ tallied Less b C.pre + tallied Less b (Rows r q ++ C.post) = tally_append Less b C.pre (Rows r q ++ C.post) in
+    let f : tallied Less b (Rows r q ++ C.post) ≡ tallied Less b (Rows r q) + tallied Less b C.post = tally_append Less b (Rows r q) C.post in
+    ap (tallied Less b) C.is ∙ omega arith
 
 -- all slots
 pub flat_count : (m : Map ResourceId Queue) → length (Flat m) ≡ sum (map length (values m))

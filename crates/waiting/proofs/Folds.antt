@@ -1,10 +1,10 @@
 -- An edit folded into the newest entry of a queue. Assumes nothing.
+use Rattle.std.specs.Prelude.{Some, None}
 use Prim.Native.Nat.{ℕ, suc, ◌+◌, ◌-◌, ◌*◌, ◌≤◌, ◌<◌}
 use native.Mathlib.Nat.{suc-mul, mul-le-mul_right}
 use native.Mathlib.Omega.{arith}
-use mathlib.Core.Path.{◌≡◌, refl, sym, ap, ap₂, ◌∙◌, subst}
+use mathlib.Core.Path.{◌≡◌, sym, ap, ap₂, ◌∙◌, subst}
 use mathlib.Core.List.{List, [], ◌∷◌, ◌++◌, append_assoc}
-use mathlib.Core.Option.{none, some}
 use mathlib.Core.Bool.{true, false}
 use lib.ListN.{length, take, drop, get_or, set, length-append, take-append-drop}
 use lib.Seq.{take_all, drop-drop, get_or-drop}
@@ -26,9 +26,9 @@ use Rattle.state.specs.Layout.{padded, field}
 use Rattle.state.specs.Fits.{PendingFits}
 use Rattle.state.specs.Contract.{Keeps, HasState, Reads, Edits, Tries}
 use Rattle.state.proofs.Widths.{text_33}
-use Rattle.waiting.specs.Queues.{below, queue, put_queue, nth, change_at, change_last, may_absorb}
+use Rattle.waiting.specs.Queues.{queue, put_queue, nth, change_at, change_last, may_absorb}
 use Rattle.waiting.specs.Slots.{EditsSlots, Rewrites, more_fields}
-use Rattle.waiting.specs.Entries.{EntryAt, FoldBytes}
+use Rattle.waiting.specs.Entries.{EntryAt, EntryIs, FindsEntry, FoldBytes}
 use Rattle.waiting.specs.Texts.{texts_end}
 use Rattle.waiting.proofs.Cuts.{Slot}
 use Rattle.waiting.proofs.Lists as lists
@@ -38,6 +38,8 @@ use Rattle.waiting.proofs.Writes as writes
 use Rattle.waiting.proofs.Texts as texts
 use Rattle.waiting.proofs.Texts.{Ids}
 use Rattle.waiting.proofs.Laws as laws
+use Rattle.waiting.proofs.Laws.{HasSlot}
+use Rattle.format.proofs.Options.{Some-injective}
 
 -- ---- the ids of an entry
 
@@ -84,36 +86,36 @@ ids_at {w = w} r j p e E =
 
 pub record Newest (r : ResourceId) (w : List ℕ) (s : SyncState) (n p : ℕ) : Type 0 where
   pub e : Pending
-  pub got : back (queue r s) ≡ some e
-  pub nth_is : nth (n - 1) (queue r s) ≡ some e
+  pub got : back (queue r s) ≡ Some e
+  pub nth_is : nth (n - 1) (queue r s) ≡ Some e
   pub fits : PendingFits document01 r e
   pub ids : IdsAt w p e.absorbed
 
-pub newest : (r : ResourceId) (w : List ℕ) (n i : ℕ) → resource_id.Ok r → Reads (λ s. length (queue r s)) w n → Reads (λ s. below r s.edits) w i → 0 < n
-    → (s : SyncState) → Keeps s w → Newest r w s n (20002 + (1 + (i + (n - 1)) * 5940))
-newest r w n i k N I l s h =
-    let c : n ≡ length (queue r s) = N.is s h in
-    let g = lists.nth_some (n - 1) (queue r s) (omega arith) in
-    let E : EntryAt r (n - 1) w s (20002 + (1 + (i + (n - 1)) * 5940)) g.0 = laws.entry_at r h (n - 1) i (20002 + (1 + (i + (n - 1)) * 5940)) g.0 k refl (I.is s h) g.1 (omega arith) in
-    record {
-      e = g.0;
-      got = sym (lists.nth_back (queue r s)) ∙ ap (λ (m : ℕ). nth (m - 1) (queue r s)) (sym c) ∙ g.1;
-      nth_is = g.1;
-      fits = E.fits;
-      ids = ids_at r (n - 1) (20002 + (1 + (i + (n - 1)) * 5940)) g.0 E;
-    }
+module _ (r : ResourceId) (w : List ℕ) (n p : ℕ) (N : Reads (λ s. length (queue r s)) w n) (F : FindsEntry r (n - 1) w (Some p)) where
+  newest : (s : SyncState) → Keeps s w → Newest r w s n p
+  unfolding EntryIs
+  newest s h =
+      let E = (F.is s h).is in
+      let e = (F.is s h).entry in
+      record {
+        e = e;
+        got = sym (lists.nth_back (queue r s)) ∙ ap (λ (m : ℕ). nth (m - 1) (queue r s)) (sym (N.is s h)) ∙ E.got;
+        nth_is = E.got;
+        fits = E.fits;
+        ids = ids_at r (n - 1) p e E;
+      }
 
 -- ---- the contract of folding
 
-may_some : (o : Operation) (e : Edit) (q : Queue) (p : Pending) → back q ≡ some p → may_absorb o e q ≡ leb (length p.absorbed + 1) 8
+may_some : (o : Operation) (e : Edit) (q : Queue) (p : Pending) → back q ≡ Some p → may_absorb o e q ≡ leb (length p.absorbed + 1) 8
 unfolding may_absorb match◌none:◌some:◌ absorb
 may_some o e q p g = rw g (ap (λ (n : ℕ). leb n 8) (length-append p.absorbed (e.id ∷ [])))
 
-may_none : (o : Operation) (e : Edit) (q : Queue) → back q ≡ none → may_absorb o e q ≡ true
+may_none : (o : Operation) (e : Edit) (q : Queue) → back q ≡ None → may_absorb o e q ≡ true
 unfolding may_absorb match◌none:◌some:◌
 may_none o e q g = rw g
 
-last_none : (f : Pending → Pending) (q : Queue) → back q ≡ none → change_last f q ≡ q
+last_none : (f : Pending → Pending) (q : Queue) → back q ≡ None → change_last f q ≡ q
 unfolding change_last match◌none:◌some:◌
 last_none f q g = rw g
 
@@ -125,12 +127,11 @@ folds_none r w n k N l o e = record {
   stays = λ s h y. h;
 }
 
-pub folds_full : (r : ResourceId) (w : List ℕ) (n i c : ℕ) → resource_id.Ok r → Reads (λ s. length (queue r s)) w n → Reads (λ s. below r s.edits) w i → 0 < n
-    → c ≡ get_or w (20002 + (1 + (i + (n - 1)) * 5940) + 5675) 0 → 8 ≤ c
+pub folds_full : (r : ResourceId) (w : List ℕ) (n p c : ℕ) → Reads (λ s. length (queue r s)) w n → FindsEntry r (n - 1) w (Some p) → c ≡ get_or w (p + 5675) 0 → 8 ≤ c
     → (o : Operation) (e : Edit) → Tries (λ s. may_absorb o e (queue r s)) (λ s. put_queue r (change_last (absorb o e) (queue r s)) s) w false w
-folds_full r w n i c k N I l q m o e = record {
+folds_full r w n p c N F q m o e = record {
   is = λ s h.
-      let M = newest r w n i k N I l s h in
+      let M = newest r w n p N F s h in
       let d : c ≡ length M.e.absorbed = q ∙ M.ids.count in
       sym (may_some o e (queue r s) M.e M.got ∙ lt-leb (length M.e.absorbed + 1) 8 (omega arith));
   makes = λ s h y. absurd (tables.false_true y);
@@ -141,50 +142,46 @@ times_33 : (a b : ℕ) → a ≤ b → a * 33 ≤ b * 33
 times_33 a b h = mul-le-mul_right 33 h
 
 -- where the id goes
-pub end_is : (r : ResourceId) (w : List ℕ) (n i c end : ℕ) → resource_id.Ok r → HasState w → Reads (λ s. length (queue r s)) w n → Reads (λ s. below r s.edits) w i → 0 < n
-    → c ≡ get_or w (20002 + (1 + (i + (n - 1)) * 5940) + 5675) 0 → c < 8 → end ≡ texts_end c w (20002 + (1 + (i + (n - 1)) * 5940) + 5676)
-    → (20002 + (1 + (i + (n - 1)) * 5940) + 5676 ≤ end) × (end ≤ 20002 + (1 + (i + (n - 1)) * 5940) + 5907)
-end_is r w n i c end k H N I l q m t =
-    let M = newest r w n i k N I l H.state H.keeps in
+pub end_is : (r : ResourceId) (w : List ℕ) (n p c end : ℕ) → HasState w → Reads (λ s. length (queue r s)) w n → FindsEntry r (n - 1) w (Some p) → c ≡ get_or w (p + 5675) 0 → c < 8 → end ≡ texts_end c w (p + 5676)
+    → (p + 5676 ≤ end) × (end ≤ p + 5907)
+end_is r w n p c end H N F q m t =
+    let M = newest r w n p N F H.state H.keeps in
     let d : c ≡ length M.e.absorbed = q ∙ M.ids.count in
-    let p : ℕ = 20002 + (1 + (i + (n - 1)) * 5940) in
-    let a : end ≡ 20002 + (1 + (i + (n - 1)) * 5940) + 5676 + length (Ids (take c M.e.absorbed)) = t ∙ M.ids.end c (omega arith) in
+    let a : end ≡ p + 5676 + length (Ids (take c M.e.absorbed)) = t ∙ M.ids.end c (omega arith) in
     let b : length (Ids (take c M.e.absorbed)) ≡ length (Ids M.e.absorbed) = ap (λ (x : List Text). length (Ids x)) (take_all c M.e.absorbed (omega arith)) in
     let f : length (Ids M.e.absorbed) ≤ length M.e.absorbed * 33 = M.ids.short in
     let g : length M.e.absorbed * 33 ≤ 7 * 33 = times_33 (length M.e.absorbed) 7 (omega arith) in
     (omega arith, omega arith)
 
-pub folds : (r : ResourceId) (w w' operation expiry id : List ℕ) (n i c end : ℕ) → resource_id.Ok r → Reads (λ s. length (queue r s)) w n → Reads (λ s. below r s.edits) w i → 0 < n
-    → c ≡ get_or w (20002 + (1 + (i + (n - 1)) * 5940) + 5675) 0 → c < 8 → end ≡ texts_end c w (20002 + (1 + (i + (n - 1)) * 5940) + 5676)
-    → EditsSlots (λ t. set t (i + (n - 1)) (more_fields (end - (20002 + (1 + (i + (n - 1)) * 5940))) (c + 1) operation expiry id (get_or t (i + (n - 1)) []))) w w'
+pub folds : (r : ResourceId) (w w' operation expiry id : List ℕ) (n i p c end : ℕ) → resource_id.Ok r → Reads (λ s. length (queue r s)) w n → HasSlot r (n - 1) w i → FindsEntry r (n - 1) w (Some p)
+    → c ≡ get_or w (p + 5675) 0 → c < 8 → end ≡ texts_end c w (p + 5676) → EditsSlots (λ t. set t i (more_fields (end - p) (c + 1) operation expiry id (get_or t i []))) w w'
     → (o : Operation) (e : Edit) → FoldBytes o e operation expiry id → Tries (λ s. may_absorb o e (queue r s)) (λ s. put_queue r (change_last (absorb o e) (queue r s)) s) w true w'
-folds r w w' operation expiry id n i c end k N I l q m t E o e B = record {
+folds r w w' operation expiry id n i p c end k N S F q m t E o e B = record {
   is = λ s h.
-      let M = newest r w n i k N I l s h in
+      let M = newest r w n p N F s h in
       let d : c ≡ length M.e.absorbed = q ∙ M.ids.count in
       sym (may_some o e (queue r s) M.e M.got ∙ le-leb (length M.e.absorbed + 1) 8 (omega arith));
   makes = λ s h y.
-      let b : n ≡ length (queue r s) = N.is s h in
-      subst (λ (x : Queue). Keeps (put_queue r x s) w') (ap (λ (x : ℕ). change_at (x - 1) (absorb o e) (queue r s)) b ∙ lists.change_last_is (absorb o e) (queue r s)) (changed.makes s h);
+      subst (λ (x : Queue). Keeps (put_queue r x s) w') (ap (λ (x : ℕ). change_at (x - 1) (absorb o e) (queue r s)) (N.is s h) ∙ lists.change_last_is (absorb o e) (queue r s)) (changed.makes s h);
   stays = λ s h y. absurd (tables.false_true (sym y));
 }
   where
-    put : (s : SyncState) → Keeps s w → (x : Pending) → nth (n - 1) (queue r s) ≡ some x → PendingFits document01 r x
-        → PendingFits document01 r (absorb o e x) × (more_fields (end - (20002 + (1 + (i + (n - 1)) * 5940))) (c + 1) operation expiry id (Slot r x) ≡ Slot r (absorb o e x))
+    put : (s : SyncState) → Keeps s w → (x : Pending) → nth (n - 1) (queue r s) ≡ Some x → PendingFits document01 r x
+        → PendingFits document01 r (absorb o e x) × (more_fields (end - p) (c + 1) operation expiry id (Slot r x) ≡ Slot r (absorb o e x))
     put s h x g ok =
-        let b : n ≡ length (queue r s) = N.is s h in
-        let J : IdsAt w (20002 + (1 + (i + (n - 1)) * 5940)) x.absorbed =
-        ids_at r (n - 1) (20002 + (1 + (i + (n - 1)) * 5940)) x (laws.entry_at r h (n - 1) i (20002 + (1 + (i + (n - 1)) * 5940)) x k refl (I.is s h) g (omega arith)) in
-        let d : c ≡ length x.absorbed = q ∙ J.count in
-        let a : end ≡ 20002 + (1 + (i + (n - 1)) * 5940) + 5676 + length (Ids (take c x.absorbed)) = t ∙ J.end c (omega arith) in
+        let M = newest r w n p N F s h in
+        let z : M.e.absorbed ≡ x.absorbed = ap (λ (y : Pending). y.absorbed) (Some-injective M.e x (sym M.nth_is ∙ g)) in
+        let d : c ≡ length x.absorbed = q ∙ M.ids.count ∙ ap length z in
+        let f : c ≤ length M.e.absorbed = omega (arith, ap length z) in
+        let a : end ≡ p + 5676 + length (Ids (take c x.absorbed)) = t ∙ M.ids.end c f ∙ ap (λ (y : List Text). p + 5676 + length (Ids (take c y))) z in
         let u : length (Ids (take c x.absorbed)) ≡ length (Ids x.absorbed) = ap (λ (y : List Text). length (Ids y)) (take_all c x.absorbed (omega arith)) in
-        let v : end - (20002 + (1 + (i + (n - 1)) * 5940)) ≡ 5675 + suc (length (Ids x.absorbed)) = omega arith in (
+        let v : end - p ≡ 5675 + suc (length (Ids x.absorbed)) = omega arith in (
           fields.absorbed_fits r x o e operation expiry id ok B (omega arith),
           ap₂ (λ (f g : ℕ). more_fields f (g + 1) operation expiry id (Slot r x)) v d ∙ fields.absorbed_put r x k ok o e operation expiry id B (omega arith),
         )
 
     changed : Edits (λ s. put_queue r (change_at (n - 1) (absorb o e) (queue r s)) s) w w'
-    changed = laws.changes r w w' n i (n - 1) (i + (n - 1)) (absorb o e) (more_fields (end - (20002 + (1 + (i + (n - 1)) * 5940))) (c + 1) operation expiry id) k N I (omega arith) refl put E
+    changed = laws.changes r w w' i (n - 1) (absorb o e) (more_fields (end - p) (c + 1) operation expiry id) k S put E
 
 pub mores : (w w1 w2 w3 w4 operation expiry id : List ℕ) (i o c : ℕ) → i < get_or w 20002 0 → Rewrites i 66 1469 operation w w1 → Rewrites i 1569 9 expiry w1 w2 → Rewrites i o (length id) id w2 w3
     → Rewrites i 5675 1 (c ∷ []) w3 w4 → EditsSlots (λ t. set t i (more_fields o c operation expiry id (get_or t i []))) w w4

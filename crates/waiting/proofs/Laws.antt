@@ -1,24 +1,21 @@
 -- What the functions of this crate cite: each law's premises are what the callees ensure. Assumes nothing.
-use Prim.Native.Nat.{ℕ, zero, suc, ◌+◌, ◌-◌, ◌*◌, ◌≤◌, ◌<◌}
-use native.Mathlib.Nat.{add-zero, not-suc-le-zero}
+use Rattle.std.specs.Prelude.{Option, Some, None, if◌then◌else◌}
+use Rattle.format.proofs.Options.{Some-injective, None-ne-Some}
+use Prim.Native.Nat.{ℕ, suc, ◌+◌, ◌*◌, ◌≤◌, ◌<◌}
 use native.Mathlib.Omega.{arith}
 use mathlib.Core.Path.{◌≡◌, refl, sym, ap, ap₂, ◌∙◌, subst}
 use mathlib.Core.List.{List, [], ◌∷◌, ◌++◌, append-nil}
-use mathlib.Core.Option.{some}
 use mathlib.Core.Bool.{Bool, true, false}
 use lib.ListN.{length, take, drop, get_or, set, length-append, drop_of_length-le}
 use lib.Seq.{take_all, set_at, get_or_at, length-take-le}
-use lib.Dec.{leb}
-use borrow.Author.Tests.{le-leb, lt-leb}
+use lib.Dec.{leb, ltb}
+use borrow.Author.Tests.{le-leb, lt-leb, le-ltb, lt-ltb, ltb-true, ltb-false}
 use Rattle.spans.specs.Bytes.{zeros}
 use Rattle.model.specs.Maps.{map}
 use Rattle.format.specs.Format.{list}
-use Rattle.spans.specs.Compare.{order}
-use Rattle.spans.specs.declared.Order.{Order}
-use Rattle.spans.specs.declared.Order.TheVariants.{Less, Equal, Greater}
-use Rattle.tables.specs.Table.{Table, flat, Sized, enc_table, chunks, slots_of, text}
+use Rattle.std.specs.declared.cmp.Ordering.{Ordering}
+use Rattle.tables.specs.Table.{Table, flat, Sized, enc_table, slots_of}
 use Rattle.tables.specs.Table.{without as without-slot}
-use Rattle.tables.specs.declared.Place.TheVariants.{Found, Missing}
 use Rattle.tables.proofs.Laws as tables
 use Rattle.lent.specs.Lent.{part, placed}
 use Rattle.lent.proofs.Laws as lent
@@ -35,8 +32,8 @@ use Rattle.state.specs.Layout.{padded, name_slot}
 use Rattle.state.specs.Fits.{PendingFits}
 use Rattle.state.specs.Contract.{Keeps, HasState, Reads, Edits, Tries}
 use Rattle.state.specs.Values.{name_of, Named}
-use Rattle.waiting.specs.Queues.{put_in, below, queue, put_queue, all_entries, nth, without, change_at, planned, joined}
-use Rattle.waiting.specs.Slots.{Slots, ReadsSlots, EditsSlots, Rewrites, Opens, counts, tallied, inserted, new_fields}
+use Rattle.waiting.specs.Queues.{put_in, below, queue, put_queue, all_entries, nth, without, change_at, planned, joined, slot_number}
+use Rattle.waiting.specs.Slots.{Slots, ReadsSlots, EditsSlots, Rewrites, Opens, tallied, inserted, new_fields}
 use Rattle.waiting.specs.Entries.{EntryAt, EntryIs, FindsEntry, PlanBytes, EditBytes}
 use Rattle.waiting.proofs.Cuts.{Slot, Rows, Flat, flat_count}
 use Rattle.waiting.proofs.Lists as lists
@@ -46,79 +43,65 @@ use Rattle.waiting.proofs.Writes as writes
 
 -- ---- counting slots
 
-pub ranked : (region key : List ℕ) (stride at : ℕ) (equal b : Bool) {o w : Order} → o ≡ order (text (take (at + stride - at) (drop at region))) (text key) → o ≡ w → equal ≡ b
-    → counts b w ≡ counts equal (order (text (take stride (drop at region))) (text key))
-ranked region key stride at equal b e q p =
-    let k : at + stride - at ≡ stride = omega arith in
-    ap₂ counts (sym p) (sym q ∙ e ∙ ap (λ (n : ℕ). order (text (take n (drop at region))) (text key)) k)
-
-pub ranked_above : (region key : List ℕ) (stride at : ℕ) (equal : Bool) {o : Order} → o ≡ order (text (take (at + stride - at) (drop at region))) (text key) → o ≡ Greater
-    → 0 ≡ counts equal (order (text (take stride (drop at region))) (text key))
-ranked_above region key stride at equal e q = sym (none equal) ∙ ranked region key stride at equal equal e q refl
-  where
-    none : (b : Bool) → counts b Greater ≡ 0
-    none true = refl
-    none false = refl
-
-counts_few : (b : Bool) (o : Order) → counts b o ≤ 1
-counts_few true Less = omega arith
-counts_few true Equal = omega arith
-counts_few true Greater = omega arith
-counts_few false Less = omega arith
-counts_few false Equal = omega arith
-counts_few false Greater = omega arith
-
-pub few : (equal : Bool) (region key : List ℕ) (stride at n : ℕ) → n ≡ counts equal (order (text (take stride (drop at region))) (text key)) → n ≤ 1
-few equal region key stride at n e = subst (λ (x : ℕ). x ≤ 1) (sym e) (counts_few equal _)
-
-pub tally_next : (equal : Bool) (key : List ℕ) (stride left at n k sum : ℕ) (r : List ℕ) → 0 < left → k ≡ counts equal (order (text (take stride (drop at r))) (text key))
-    → sum ≡ n + tallied equal key (chunks stride left (drop at r)) → sum ≡ n + k + tallied equal key (chunks stride (left - 1) (drop (at + stride) r))
-unfolding tallied
-tally_next equal key stride left at n k sum r h e q =
-    let rest : ℕ = tallied equal key (chunks stride (left - 1) (drop (at + stride) r)) in
-    let d : tallied equal key (chunks stride left (drop at r)) ≡ counts equal (order (text (take stride (drop at r))) (text key)) + tallied equal key (chunks stride (left - 1) (drop (at + stride) r)) =
-    ap (tallied equal key) (tables.chunks_next stride left at r h) in
-    q ∙ ap (λ (x : ℕ). n + x) (d ∙ ap (λ (x : ℕ). x + rest) (sym e)) ∙ omega arith
-
-pub tally_end : (equal : Bool) (key : List ℕ) (stride left at n sum : ℕ) (r : List ℕ) → left ≤ 0 → sum ≡ n + tallied equal key (chunks stride left (drop at r)) → n ≡ sum
-unfolding tallied chunks
-tally_end equal key stride zero at n sum r h e = sym (e ∙ add-zero n)
-tally_end equal key stride (suc left) at n sum r h e = absurd (not-suc-le-zero h)
-
-pub tallied_in : (equal : Bool) (key w : List ℕ) (n : ℕ) → n ≡ tallied equal key (slots_of 5940 (take (20002 + 35641 - 20002) (drop 20002 w))) → ReadsSlots (tallied equal key) w n
-tallied_in equal key w n e = record { is = λ t w₀ S. e ∙ ap (tallied equal key) (lent.slots_are 5940 20002 35641 w t S.sized (splices.slots_part S)) }
+pub tallied_in : (rank : Ordering) (key w : List ℕ) (n : ℕ) → n ≡ tallied rank key (slots_of 5940 (take 35641 (drop 20002 w))) → ReadsSlots (tallied rank key) w n
+tallied_in rank key w n e = record { is = λ t w₀ S. e ∙ ap (tallied rank key) (lent.slots_are 5940 20002 35641 w t S.sized (splices.slots_part S)) }
 
 -- ---- where an entry stands
 
+-- entry j of the queue of r has slot i
+pub record HasSlot (r : ResourceId) (j : ℕ) (w : List ℕ) (i : ℕ) : Type 0 where
+  pub is : (s : SyncState) → Keeps s w → (i ≡ below r s.edits + j) × (j < length (queue r s))
+
+module _ (r : ResourceId) (w : List ℕ) (j : ℕ) where
+  pub has_slot : (n i : ℕ) → Reads (λ s. length (queue r s)) w n → Reads (λ s. below r s.edits) w i → j < n → HasSlot r j w (i + j)
+  has_slot n i N I l = record { is = λ s h. (ap (λ (x : ℕ). x + j) (I.is s h), subst (λ (x : ℕ). j < x) (N.is s h) l) }
+
+  pub slot_some : (n i : ℕ) → Reads (λ s. length (queue r s)) w n → Reads (λ s. below r s.edits) w i → j < n → Reads (slot_number r j) w (Some (i + j))
+  slot_some n i N I l = record { is = λ s h. let c : n ≡ length (queue r s) = N.is s h in rw (lt-ltb j (length (queue r s)) (omega arith)) (ap (λ (x : ℕ). Some (x + j)) (I.is s h)) }
+
+  pub slot_none : (n : ℕ) → Reads (λ s. length (queue r s)) w n → n ≤ j → Reads (slot_number r j) w None
+  slot_none n N l = record { is = λ s h. let c : n ≡ length (queue r s) = N.is s h in rw (le-ltb j (length (queue r s)) (omega arith)) }
+
+  pub slot_is : (i : ℕ) → Reads (slot_number r j) w (Some i) → HasSlot r j w i
+  slot_is i R = record { is = λ s h. go s (ltb j (length (queue r s))) refl (R.is s h) }
+    where
+      go : (s : SyncState) (b : Bool) → ltb j (length (queue r s)) ≡ b → Some i ≡ (if b then Some (below r s.edits + j) else None) → (i ≡ below r s.edits + j) × (j < length (queue r s))
+      go s true q e = (Some-injective i (below r s.edits + j) e, ltb-true j (length (queue r s)) q)
+      go s false q e = absurd (None-ne-Some i (sym e))
+
+  pub slot_not : Reads (slot_number r j) w None → (s : SyncState) → Keeps s w → length (queue r s) ≤ j
+  slot_not R s h = go (ltb j (length (queue r s))) refl (R.is s h)
+    where
+      go : (b : Bool) → ltb j (length (queue r s)) ≡ b → None ≡ (if b then Some (below r s.edits + j) else None) → length (queue r s) ≤ j
+      go true q e = absurd (None-ne-Some (below r s.edits + j) e)
+      go false q e = ltb-false j (length (queue r s)) q
+
 -- its number in the table is below the count
-pub index_below : (r : ResourceId) (w : List ℕ) (n i j : ℕ) → HasState w → Reads (λ s. length (queue r s)) w n → Reads (λ s. below r s.edits) w i → j < n → i + j < 6
+pub index_below : (r : ResourceId) (w : List ℕ) (i j : ℕ) → HasState w → HasSlot r j w i → i < 6
 unfolding document01
-index_below r w n i j H N I l =
+index_below r w i j H S =
     let s = H.state in
     let h = H.keeps in
     let a = splices.rows_count r h in
     let b : length (Flat s.edits) ≤ 6 = h.fits.edits.small in
-    let c : n ≡ length (queue r s) = N.is s h in
-    let d : i ≡ below r s.edits = I.is s h in
+    let c = S.is s h in
     omega arith
 
-pub not_there : (r : ResourceId) (w : List ℕ) (n j p : ℕ) → Reads (λ s. length (queue r s)) w n → n ≤ j → FindsEntry r j w (Missing p)
+pub not_there : (r : ResourceId) (w : List ℕ) (j : ℕ) (x : Option ℕ) → Reads (slot_number r j) w None → x ≡ None → FindsEntry r j w x
 unfolding EntryIs
-not_there r w n j p N l = record {
-  is = λ s h.
-      let c : n ≡ length (queue r s) = N.is s h in
-      lists.nth_none j (queue r s) (omega arith);
-}
+not_there r w j x R e = subst (FindsEntry r j w) (sym e) (record { is = λ s h. lists.nth_none j (queue r s) (slot_not r w j R s h) })
 
 module _ {s : SyncState} {w : List ℕ} (r : ResourceId) (h : Keeps s w) (j i p : ℕ) (e : Pending) where
-  pub entry_at : resource_id.Ok r → p ≡ 20002 + (1 + (i + j) * 5940) → i ≡ below r s.edits → nth j (queue r s) ≡ some e → j < length (queue r s) → EntryAt r j w s p e
-  entry_at k q d g l =
+  pub entry_at : resource_id.Ok r → p ≡ 20002 + (1 + i * 5940) → HasSlot r j w i → nth j (queue r s) ≡ Some e → EntryAt r j w s p e
+  entry_at k q H g =
+      let d : i ≡ below r s.edits + j = (H.is s h).0 in
+      let l : j < length (queue r s) = (H.is s h).1 in
       let a = splices.rows_count r h in
       let S = splices.slots_of_lem h in
-      let u = splices.slot_in (i + j) S (omega arith) in
+      let u = splices.slot_in i S (omega arith) in
       let ok : PendingFits document01 r e = lists.nth_all (PendingFits document01 r) j (queue r s) e (splices.cut_of r h).own g in
       let b : take 5940 (drop p w) ≡ Slot r e =
-      ap (λ (n : ℕ). take 5940 (drop n w)) q ∙ u.0 ∙ ap (λ (n : ℕ). get_or (Flat s.edits) (n + j) []) d ∙ splices.row_of r h j e g l in
+      ap (λ (n : ℕ). take 5940 (drop n w)) q ∙ u.0 ∙ ap (λ (n : ℕ). get_or (Flat s.edits) n []) d ∙ splices.row_of r h j e g l in
       let f : take 5940 (drop p w) ≡ flat (fields.fields r e) = b ∙ fields.slot_is r e in
       let z = fields.fields_long r e k ok in
       let at : (o n : ℕ) → o + n ≤ 5940 → take n (drop (p + o) w) ≡ take n (drop o (flat (fields.fields r e))) =
@@ -138,61 +121,57 @@ module _ {s : SyncState} {w : List ℕ} (r : ResourceId) (h : Keeps s w) (j i p 
         absorbed = at 5675 265 (omega arith) ∙ fields.field_of 8 (fields.fields r e) z (omega arith);
       }
 
-pub found : (r : ResourceId) (w : List ℕ) (n i j : ℕ) → resource_id.Ok r → Reads (λ s. length (queue r s)) w n → Reads (λ s. below r s.edits) w i → j < n
-    → FindsEntry r j w (Found (20002 + (1 + (i + j) * 5940)))
+pub found : (r : ResourceId) (w : List ℕ) (i j p : ℕ) → resource_id.Ok r → HasSlot r j w i → p ≡ 20002 + (1 + i * 5940) → FindsEntry r j w (Some p)
 unfolding EntryIs
-found r w n i j k N I l = record {
+found r w i j p k H q = record {
   is = λ s h.
-      let c : n ≡ length (queue r s) = N.is s h in
-      let g = lists.nth_some j (queue r s) (omega arith) in
-      record { entry = g.0; is = entry_at r h j i (20002 + (1 + (i + j) * 5940)) g.0 k refl (I.is s h) g.1 (omega arith) };
+      let g = lists.nth_some j (queue r s) (H.is s h).1 in
+      record { entry = g.0; is = entry_at r h j i p g.0 k q H g.1 };
 }
 
 -- ---- changes of a queue
 
-pub index_count : (r : ResourceId) (w : List ℕ) (n i j : ℕ) → HasState w → Reads (λ s. length (queue r s)) w n → Reads (λ s. below r s.edits) w i → j < n → i + j < get_or w 20002 0
-index_count r w n i j H N I l =
+pub index_count : (r : ResourceId) (w : List ℕ) (i j : ℕ) → HasState w → HasSlot r j w i → i < get_or w 20002 0
+index_count r w i j H S =
     let s = H.state in
     let h = H.keeps in
     let a = splices.rows_count r h in
     let b : get_or w 20002 0 ≡ length (Flat s.edits) = (splices.slots_of_lem h).count in
-    let c : n ≡ length (queue r s) = N.is s h in
-    let d : i ≡ below r s.edits = I.is s h in
+    let c = S.is s h in
     omega arith
 
-pub removes_none : (r : ResourceId) (w : List ℕ) (n j : ℕ) → resource_id.Ok r → Reads (λ s. length (queue r s)) w n → n ≤ j → Edits (λ s. put_queue r (without j (queue r s)) s) w w
+pub removes_none : (r : ResourceId) (w : List ℕ) (j : ℕ) → resource_id.Ok r → Reads (slot_number r j) w None → Edits (λ s. put_queue r (without j (queue r s)) s) w w
 unfolding without
-removes_none r w n j k N l = record {
+removes_none r w j k R = record {
   makes = λ s h.
       let q : Queue = queue r s in
-      let c : n ≡ length (queue r s) = N.is s h in
+      let c : length q ≤ j = slot_not r w j R s h in
       splices.kept r k h w (without j q) (ap₂ (λ (x y : Queue). x ++ y) (take_all j q (omega arith)) (drop_of_length-le q {i = suc j} (omega arith)) ∙ append-nil q);
 }
 
-pub removes : (r : ResourceId) (w w' : List ℕ) (n i j : ℕ) → resource_id.Ok r → HasState w → Reads (λ s. length (queue r s)) w n → Reads (λ s. below r s.edits) w i → j < n
-    → ((t : Table) → Sized 5940 t → part 20002 35641 w ≡ enc_table 35641 t → w' ≡ placed 20002 35641 (enc_table 35641 (without-slot (i + j) t)) w)
+pub removes : (r : ResourceId) (w w' : List ℕ) (i j : ℕ) → resource_id.Ok r → HasState w → HasSlot r j w i
+    → ((t : Table) → Sized 5940 t → part 20002 35641 w ≡ enc_table 35641 t → w' ≡ placed 20002 35641 (enc_table 35641 (without-slot i t)) w)
     → Edits (λ s. put_queue r (without j (queue r s)) s) w w'
-removes r w w' n i j k H N I l g = record {
+removes r w w' i j k H S g = record {
   makes = λ s h.
-      let c : n ≡ length (queue r s) = N.is s h in
-      splices.removed r k h w' j (omega arith) (subst (λ (x : ℕ). Slots (without-slot (x + j) (Flat s.edits)) w w') (I.is s h)
-      ((writes.taken_out (i + j) w w' (index_count r w n i j H N I l) g).makes (Flat s.edits) w (splices.slots_of_lem h)));
+      splices.removed r k h w' j (S.is s h).1 (subst (λ (x : ℕ). Slots (without-slot x (Flat s.edits)) w w') (S.is s h).0
+      ((writes.taken_out i w w' (index_count r w i j H S) g).makes (Flat s.edits) w (splices.slots_of_lem h)));
 }
 
 -- entry j is changed where its slot is: F of the bytes is g of the entry
-pub changes : (r : ResourceId) (w w' : List ℕ) (n i j at : ℕ) (g : Pending → Pending) (F : List ℕ → List ℕ) → resource_id.Ok r → Reads (λ s. length (queue r s)) w n → Reads (λ s. below r s.edits) w i
-    → j < n → at ≡ i + j → ((s : SyncState) → Keeps s w → (p : Pending) → nth j (queue r s) ≡ some p → PendingFits document01 r p → PendingFits document01 r (g p) × (F (Slot r p) ≡ Slot r (g p)))
-    → EditsSlots (λ t. set t at (F (get_or t at []))) w w' → Edits (λ s. put_queue r (change_at j g (queue r s)) s) w w'
-changes r w w' n i j at g F k N I l e f E = record {
+pub changes : (r : ResourceId) (w w' : List ℕ) (i j : ℕ) (g : Pending → Pending) (F : List ℕ → List ℕ) → resource_id.Ok r → HasSlot r j w i
+    → ((s : SyncState) → Keeps s w → (p : Pending) → nth j (queue r s) ≡ Some p → PendingFits document01 r p → PendingFits document01 r (g p) × (F (Slot r p) ≡ Slot r (g p)))
+    → EditsSlots (λ t. set t i (F (get_or t i []))) w w' → Edits (λ s. put_queue r (change_at j g (queue r s)) s) w w'
+changes r w w' i j g F k H f E = record {
   makes = λ s h.
-      let c : n ≡ length (queue r s) = N.is s h in
-      let x = lists.nth_some j (queue r s) (omega arith) in
+      let l : j < length (queue r s) = (H.is s h).1 in
+      let x = lists.nth_some j (queue r s) l in
       let p : Pending = x.0 in
       let t : Table = Flat s.edits in
       let ok : PendingFits document01 r p = lists.nth_all (PendingFits document01 r) j (queue r s) p (splices.cut_of r h).own x.1 in
-      let a : at ≡ below r s.edits + j = e ∙ ap (λ (m : ℕ). m + j) (I.is s h) in
-      let y : F (get_or t at []) ≡ Slot r (g p) = ap F (ap (λ (m : ℕ). get_or t m []) a ∙ splices.row_of r h j p x.1 (omega arith)) ∙ (f s h p x.1 ok).1 in
-      splices.changed r k h w' j g p x.1 (omega arith) (f s h p x.1 ok).0
+      let a : i ≡ below r s.edits + j = (H.is s h).0 in
+      let y : F (get_or t i []) ≡ Slot r (g p) = ap F (ap (λ (m : ℕ). get_or t m []) a ∙ splices.row_of r h j p x.1 l) ∙ (f s h p x.1 ok).1 in
+      splices.changed r k h w' j g p x.1 l (f s h p x.1 ok).0
       (subst (λ (u : Table). Slots u w w') (ap₂ (λ (m : ℕ) (z : List ℕ). set t m z) a y) (E.makes t w (splices.slots_of_lem h)));
 }
 
@@ -210,32 +189,32 @@ unfolding change_front
 empty_front g [] e = refl
 empty_front g (p ∷ q) e = absurd (omega arith)
 
-pub front_none : (r : ResourceId) (g : Pending → Pending) (w : List ℕ) (n : ℕ) → resource_id.Ok r → Reads (λ s. length (queue r s)) w n → n ≡ 0 → Edits (λ s. put_queue r (change_front g (queue r s)) s) w w
-front_none r g w n k N l = record { makes = λ s h. splices.kept r k h w (change_front g (queue r s)) (empty_front g (queue r s) (sym (N.is s h) ∙ l)) }
+pub front_none : (r : ResourceId) (g : Pending → Pending) (w : List ℕ) → resource_id.Ok r → Reads (slot_number r 0) w None → Edits (λ s. put_queue r (change_front g (queue r s)) s) w w
+front_none r g w k R = record {
+  makes = λ s h.
+      let l : length (queue r s) ≤ 0 = slot_not r w 0 R s h in
+      splices.kept r k h w (change_front g (queue r s)) (empty_front g (queue r s) (omega arith));
+}
 
-pub front_changes : (r : ResourceId) (w w' : List ℕ) (n i : ℕ) (g : Pending → Pending) (F : List ℕ → List ℕ) → resource_id.Ok r → Reads (λ s. length (queue r s)) w n → Reads (λ s. below r s.edits) w i
-    → 0 < n → ((p : Pending) → PendingFits document01 r p → PendingFits document01 r (g p) × (F (Slot r p) ≡ Slot r (g p)))
+front_changes : (r : ResourceId) (w w' : List ℕ) (i : ℕ) (g : Pending → Pending) (F : List ℕ → List ℕ) → resource_id.Ok r → HasSlot r 0 w i
+    → ((p : Pending) → PendingFits document01 r p → PendingFits document01 r (g p) × (F (Slot r p) ≡ Slot r (g p)))
     → EditsSlots (λ t. set t i (F (get_or t i []))) w w' → Edits (λ s. put_queue r (change_front g (queue r s)) s) w w'
-front_changes r w w' n i g F k N I l f E = front_edits r g w w' (changes r w w' n i 0 i g F k N I l (sym (add-zero i)) (λ s h p e ok. f p ok) E)
+front_changes r w w' i g F k H f E = front_edits r g w w' (changes r w w' i 0 g F k H (λ s h p e ok. f p ok) E)
 
-pub front_count : (r : ResourceId) (w : List ℕ) (n i : ℕ) → HasState w → Reads (λ s. length (queue r s)) w n → Reads (λ s. below r s.edits) w i → 0 < n → i < get_or w 20002 0
-front_count r w n i H N I l = let a = index_count r w n i 0 H N I l in omega arith
+pub collides : (r : ResourceId) (w w' : List ℕ) (i : ℕ) → resource_id.Ok r → HasSlot r 0 w i → Rewrites i 5674 1 (1 ∷ []) w w' → Edits (λ s. put_queue r (change_front as_collided (queue r s)) s) w w'
+collides r w w' i k H R =
+    front_changes r w w' i as_collided (placed 5674 1 (padded 1 (1 ∷ []))) k H (λ p ok. (fields.collided_fits r p k ok, fields.collided_put r p k ok)) R.edits
 
-pub collides : (r : ResourceId) (w w' : List ℕ) (n i : ℕ) → resource_id.Ok r → Reads (λ s. length (queue r s)) w n → Reads (λ s. below r s.edits) w i → 0 < n
-    → Rewrites i 5674 1 (1 ∷ []) w w' → Edits (λ s. put_queue r (change_front as_collided (queue r s)) s) w w'
-collides r w w' n i k N I l R =
-    front_changes r w w' n i as_collided (placed 5674 1 (padded 1 (1 ∷ []))) k N I l (λ p ok. (fields.collided_fits r p k ok, fields.collided_put r p k ok)) R.edits
-
-pub plans : (r : ResourceId) (w w1 w2 b d : List ℕ) (n i : ℕ) → resource_id.Ok r → HasState w → Reads (λ s. length (queue r s)) w n → Reads (λ s. below r s.edits) w i → 0 < n
+pub plans : (r : ResourceId) (w w1 w2 b d : List ℕ) (i : ℕ) → resource_id.Ok r → HasState w → HasSlot r 0 w i
     → length b ≤ 3072 → length d ≤ 1024 → Rewrites i 1578 3072 b w w1 → Rewrites i 4650 1024 d w1 w2
     → (cs : List Conflict) (rs : List Refused) → PlanBytes cs rs b d → Edits (λ s. put_queue r (change_front (planned cs rs) (queue r s)) s) w w2
-plans r w w1 w2 b d n i k H N I l m o R Q cs rs B =
-    front_changes r w w2 n i (planned cs rs) (λ x. placed 4650 1024 (padded 1024 d) (placed 1578 3072 (padded 3072 b) x)) k N I l
+plans r w w1 w2 b d i k H S m o R Q cs rs B =
+    front_changes r w w2 i (planned cs rs) (λ x. placed 4650 1024 (padded 1024 d) (placed 1578 3072 (padded 3072 b) x)) k S
     (λ p ok. (
       fields.planned_fits r p k ok cs rs B.conflicts_ok (subst (λ (x : List ℕ). length x ≤ 3072) B.conflicts_is m) B.refused_ok (subst (λ (x : List ℕ). length x ≤ 1024) B.refused_is o),
       fields.planned_put r p k ok cs rs b d B m,
     ))
-    (writes.field_more i 4650 1024 d (placed 1578 3072 (padded 3072 b)) (front_count r w n i H N I l) R.edits Q)
+    (writes.field_more i 4650 1024 d (placed 1578 3072 (padded 3072 b)) (index_count r w i 0 H S) R.edits Q)
 
 pub unplans : (r : ResourceId) (w w' : List ℕ) → ((cs : List Conflict) (rs : List Refused) → PlanBytes cs rs (0 ∷ []) (0 ∷ []) → Edits (λ s. put_queue r (change_front (planned cs rs) (queue r s)) s) w w')
     → Edits (λ s. put_queue r (change_front without_plan (queue r s)) s) w w'

@@ -1,10 +1,11 @@
 -- Lists cut in three, and a part of a buffer put in its place. Assumes nothing.
+use Rattle.std.specs.Prelude.{Option, Some, None}
+use Rattle.format.proofs.Options.{Some-injective, None-ne-Some}
 use Prim.Native.Nat.{ℕ, zero, suc, ◌+◌, ◌-◌, ◌≤◌, ◌<◌}
 use native.Mathlib.Nat.{zero-add, suc-add, add-suc, not-suc-le-zero, le_of_suc-le-suc}
 use native.Mathlib.Omega.{arith}
 use mathlib.Core.Path.{◌≡◌, refl, sym, ap, ap₂, ◌∙◌, subst}
 use mathlib.Core.List.{List, [], ◌∷◌, ◌++◌, append_assoc}
-use mathlib.Core.Option.{Option, none, some, some-injective, none-ne-some}
 use lib.ListN.{length, take, drop, get_or, set, length-append, length-drop, take-append-drop, get_or-append}
 use lib.Seq.{length-take-le, take_at, drop_at, take-append-le, drop-append-le, take-append-add, drop-append-add, set-append_left, get_or-append-add, take-add, drop-drop, take-take}
 use Rattle.format.specs.Format.{All}
@@ -61,34 +62,40 @@ module _ {A B : Type 0} (f : A → B) where
 
 -- ---- queues
 
-some_of : {A : Type 0} {a b : A} → some a ≡ some b → a ≡ b
-some_of {a = a} {b} e = some-injective a b e
+some_of : {A : Type 0} {a b : A} → Some a ≡ Some b → a ≡ b
+some_of {a = a} {b} e = Some-injective a b e
 
-pub nth_some : (j : ℕ) (q : Queue) → j < length q → (p : Pending) × (nth j q ≡ some p)
+pub nth_some : (j : ℕ) (q : Queue) → j < length q → (p : Pending) × (nth j q ≡ Some p)
 unfolding nth
 nth_some j [] h = absurd (not-suc-le-zero h)
 nth_some zero (p ∷ q) h = (p, refl)
 nth_some (suc j) (p ∷ q) h = nth_some j q (le_of_suc-le-suc h)
 
-pub nth_none : (j : ℕ) (q : Queue) → length q ≤ j → nth j q ≡ none
+pub nth_none : (j : ℕ) (q : Queue) → length q ≤ j → nth j q ≡ None
 unfolding nth
 nth_none j [] h = refl
 nth_none zero (p ∷ q) h = absurd (not-suc-le-zero h)
 nth_none (suc j) (p ∷ q) h = nth_none j q (le_of_suc-le-suc h)
 
+pub nth_below : (j : ℕ) (q : Queue) (p : Pending) → nth j q ≡ Some p → j < length q
+unfolding nth
+nth_below j [] p e = absurd (None-ne-Some p e)
+nth_below zero (x ∷ q) p e = omega arith
+nth_below (suc j) (x ∷ q) p e = let h : j < length q = nth_below j q p e in omega arith
+
 pub map_without : (f : Pending → List ℕ) (j : ℕ) (q : Queue) → map f (without j q) ≡ take j (map f q) ++ drop (suc j) (map f q)
 unfolding without
 map_without f j q = map-append f (take j q) (drop (suc j) q) ∙ ap₂ (λ (x y : List (List ℕ)). x ++ y) (map_take f j q) (map_drop f (suc j) q)
 
-pub nth_row : (f : Pending → List ℕ) (j : ℕ) (q : Queue) (p : Pending) → nth j q ≡ some p → get_or (map f q) j [] ≡ f p
+pub nth_row : (f : Pending → List ℕ) (j : ℕ) (q : Queue) (p : Pending) → nth j q ≡ Some p → get_or (map f q) j [] ≡ f p
 unfolding nth map
-nth_row f j [] p e = absurd (none-ne-some p e)
+nth_row f j [] p e = absurd (None-ne-Some p e)
 nth_row f zero (x ∷ q) p e = ap f (some_of e)
 nth_row f (suc j) (x ∷ q) p e = nth_row f j q p e
 
-pub map_change : (f : Pending → List ℕ) (g : Pending → Pending) (j : ℕ) (q : Queue) (p : Pending) → nth j q ≡ some p → map f (change_at j g q) ≡ set (map f q) j (f (g p))
+pub map_change : (f : Pending → List ℕ) (g : Pending → Pending) (j : ℕ) (q : Queue) (p : Pending) → nth j q ≡ Some p → map f (change_at j g q) ≡ set (map f q) j (f (g p))
 unfolding nth map change_at
-map_change f g j [] p e = absurd (none-ne-some p e)
+map_change f g j [] p e = absurd (None-ne-Some p e)
 map_change f g zero (x ∷ q) p e = ap (λ (y : Pending). f (g y) ∷ map f q) (some_of e)
 map_change f g (suc j) (x ∷ q) p e = ap (λ (y : List (List ℕ)). f x ∷ y) (map_change f g j q p e)
 
@@ -143,9 +150,9 @@ placed_in at len o n y w h k =
     ∙ sym (append_assoc (take o x) (y ++ take (len - o - n) z) (drop len x)))
     ∙ ap (λ (b : List ℕ). take at w ++ (b ++ drop len x)) (sym u)
 
-pub nth_all : (P : Pending → Type 0) (j : ℕ) (q : Queue) (p : Pending) → All P q → nth j q ≡ some p → P p
+pub nth_all : (P : Pending → Type 0) (j : ℕ) (q : Queue) (p : Pending) → All P q → nth j q ≡ Some p → P p
 unfolding nth
-nth_all P j [] p a e = absurd (none-ne-some p e)
+nth_all P j [] p a e = absurd (None-ne-Some p e)
 nth_all P zero (x ∷ q) p a e = subst P (some_of e) a.0
 nth_all P (suc j) (x ∷ q) p a e = nth_all P j q p a.1 e
 
@@ -159,18 +166,18 @@ nth_back (p ∷ (x ∷ q)) =
     let e : suc (suc (length q)) - 1 ≡ suc (length (x ∷ q) - 1) = omega arith in
     ap (λ (n : ℕ). nth n (p ∷ (x ∷ q))) e ∙ nth_back (x ∷ q)
 
-change_back : (f : Pending → Pending) (q : Queue) (p : Pending) → back q ≡ some p → change_at (length q - 1) f q ≡ without_back q ++ (f p ∷ [])
+change_back : (f : Pending → Pending) (q : Queue) (p : Pending) → back q ≡ Some p → change_at (length q - 1) f q ≡ without_back q ++ (f p ∷ [])
 unfolding back without_back change_at
-change_back f [] p e = absurd (none-ne-some p e)
+change_back f [] p e = absurd (None-ne-Some p e)
 change_back f (x ∷ []) p e = ap (λ (y : Pending). f y ∷ []) (some_of e)
 change_back f (x ∷ (y ∷ q)) p e =
     let n : suc (suc (length q)) - 1 ≡ suc (length (y ∷ q) - 1) = omega arith in
     ap (λ (k : ℕ). change_at k f (x ∷ (y ∷ q))) n ∙ ap (λ (z : Queue). x ∷ z) (change_back f (y ∷ q) p e)
 
-no_change : (f : Pending → Pending) (q : Queue) → back q ≡ none → change_at (length q - 1) f q ≡ q
+no_change : (f : Pending → Pending) (q : Queue) → back q ≡ None → change_at (length q - 1) f q ≡ q
 unfolding back change_at
 no_change f [] e = refl
-no_change f (x ∷ []) e = absurd (none-ne-some x (sym e))
+no_change f (x ∷ []) e = absurd (None-ne-Some x (sym e))
 no_change f (x ∷ (y ∷ q)) e =
     let n : suc (suc (length q)) - 1 ≡ suc (length (y ∷ q) - 1) = omega arith in
     ap (λ (k : ℕ). change_at k f (x ∷ (y ∷ q))) n ∙ ap (λ (z : Queue). x ∷ z) (no_change f (y ∷ q) e)
@@ -180,11 +187,11 @@ unfolding change_last match◌none:◌some:◌
 change_last_is f q = go (back q) refl
   where
     go : (o : Option Pending) → back q ≡ o → change_at (length q - 1) f q ≡ (match o none: q some: (λ p. without_back q ++ (f p ∷ [])))
-    go none e = no_change f q e
-    go (some p) e = change_back f q p e
+    go None e = no_change f q e
+    go (Some p) e = change_back f q p e
 
 -- an empty queue has no newest entry
-pub back_none : (q : Queue) → length q ≡ 0 → back q ≡ none
+pub back_none : (q : Queue) → length q ≡ 0 → back q ≡ None
 unfolding back
 back_none [] e = refl
 back_none (p ∷ q) e = absurd (omega arith)

@@ -1,11 +1,10 @@
 -- An entry that leaves one queue and joins another. Assumes nothing.
-use Prim.Native.Nat.{ℕ, suc, ◌+◌, ◌-◌, ◌*◌, ◌≤◌, ◌<◌}
+use Prim.Native.Nat.{ℕ, suc, ◌+◌, ◌-◌, ◌≤◌, ◌<◌}
 use native.Mathlib.Omega.{arith}
-use mathlib.Core.Path.{◌≡◌, refl, ap, ◌∙◌, subst}
-use mathlib.Core.List.{List, [], ◌++◌, append-nil}
-use lib.ListN.{length, take, drop, get_or, set, length-append, length-drop, drop_of_length-le}
+use mathlib.Core.Path.{◌≡◌, ap, ◌∙◌, subst}
+use mathlib.Core.List.{List, [], ◌++◌}
+use lib.ListN.{length, take, drop, get_or, set, length-append, length-drop}
 use lib.Seq.{length-take-le}
-use Rattle.tables.proofs.Laws as tables
 use Rattle.lent.specs.Lent.{placed}
 use Rattle.model.specs.Seam.{ResourceId}
 use Rattle.model.specs.State.{Pending, Queue, SyncState}
@@ -19,6 +18,8 @@ use Rattle.state.specs.Contract.{HasState, Reads, Edits}
 use Rattle.state.specs.Values.{name_of, Named}
 use Rattle.waiting.specs.Queues.{put_in, below, queue, put_queue, without, renamed, joined, moved}
 use Rattle.waiting.specs.Slots.{EditsSlots, Rewrites, Opens}
+use Rattle.waiting.specs.Entries.{EntryIs, FindsEntry}
+use Rattle.std.specs.Prelude.{Some, None}
 use Rattle.waiting.proofs.Cuts.{Slot, Rows, Flat}
 use Rattle.waiting.proofs.Lists as lists
 use Rattle.waiting.proofs.Fields as fields
@@ -40,26 +41,22 @@ slot_joins to w w1 w2 w3 b x n i M q c l N I O R1 R2 r p k ok e =
 
 -- ---- moving
 
-pub moves_none : (from to : ResourceId) (w : List ℕ) (n j : ℕ) → Reads (λ s. length (queue from s)) w n → n ≤ j → Edits (moved from j to) w w
-unfolding moved match◌none:◌some:◌
-moves_none from to w n j N l = record {
-  makes = λ s h.
-      let c : n ≡ length (queue from s) = N.is s h in
-      rw (lists.nth_none j (queue from s) (omega arith)) h;
-}
+pub moves_none : (from to : ResourceId) (w : List ℕ) (j : ℕ) → FindsEntry from j w None → Edits (moved from j to) w w
+unfolding moved match◌none:◌some:◌ EntryIs
+moves_none from to w j F = record { makes = λ s h. rw (F.is s h) h }
 
 pub has_state : {f : SyncState → SyncState} {w w' : List ℕ} → HasState w → Edits f w w' → HasState w'
 has_state {f} H E = record { state = f H.state; keeps = E.makes H.state H.keeps }
 
-pub room_left : (r : ResourceId) (w w' : List ℕ) (n j : ℕ) → HasState w → Reads (λ s. length (queue r s)) w n → j < n → Edits (λ s. put_queue r (without j (queue r s)) s) w w' → get_or w' 20002 0 < 6
-unfolding without document01
-room_left r w w' n j H N l E =
+pub room_left : (r : ResourceId) (w w' : List ℕ) (j p : ℕ) → HasState w → FindsEntry r j w (Some p) → Edits (λ s. put_queue r (without j (queue r s)) s) w w' → get_or w' 20002 0 < 6
+unfolding without document01 EntryIs
+room_left r w w' j at H F E =
     let s = H.state in
     let h = H.keeps in
     let q : Queue = queue r s in
     let C = splices.cut_of r h in
     let u : Queue = take j q ++ drop (suc j) q in
-    let c : n ≡ length (queue r s) = N.is s h in
+    let c : j < length (queue r s) = lists.nth_below j (queue r s) (F.is s h).entry (F.is s h).is.got in
     let d : get_or w' 20002 0 ≡ length (Flat (put_in r u s.edits)) = (splices.slots_of_lem (E.makes s h)).count in
     let e : length (Flat (put_in r u s.edits)) ≡ length C.pre + length (Rows r u ++ C.post) = ap length (C.put u) ∙ length-append C.pre (Rows r u ++ C.post) in
     let f : length (Rows r u ++ C.post) ≡ length (Rows r u) + length C.post = length-append (Rows r u) C.post in
@@ -71,22 +68,14 @@ room_left r w w' n j H N l E =
     let p : length (Flat s.edits) ≤ 6 = h.fits.edits.small in
     omega arith
 
-pub moves : (from to : ResourceId) (w w1 w2 x : List ℕ) (n i j : ℕ) → resource_id.Ok from → Reads (λ s. length (queue from s)) w n → Reads (λ s. below from s.edits) w i → j < n
-    → x ≡ take 5940 (drop (20002 + (1 + (i + j) * 5940)) w) → Edits (λ s. put_queue from (without j (queue from s)) s) w w1
+pub moves : (from to : ResourceId) (w w1 w2 x : List ℕ) (j p : ℕ) → resource_id.Ok from → FindsEntry from j w (Some p)
+    → x ≡ take 5940 (drop p w) → Edits (λ s. put_queue from (without j (queue from s)) s) w w1
     → ((r : ResourceId) (p : Pending) → resource_id.Ok r → PendingFits document01 r p → x ≡ Slot r p → Edits (joined to (renamed to p)) w1 w2)
     → Edits (moved from j to) w w2
-unfolding moved match◌none:◌some:◌
-moves from to w w1 w2 x n i j k N I l e E f = record {
+unfolding moved match◌none:◌some:◌ EntryIs
+moves from to w w1 w2 x j p k F e E f = record {
   makes = λ s h.
-      let c : n ≡ length (queue from s) = N.is s h in
-      let g = lists.nth_some j (queue from s) (omega arith) in
-      let A = laws.entry_at from h j i (20002 + (1 + (i + j) * 5940)) g.0 k refl (I.is s h) g.1 (omega arith) in
-      rw g.1 ((f from g.0 k A.fits (e ∙ A.slot)).makes (put_queue from (without j (queue from s)) s) (E.makes s h));
+      let A = (F.is s h).is in
+      let g = (F.is s h).entry in
+      rw A.got ((f from g k A.fits (e ∙ A.slot)).makes (put_queue from (without j (queue from s)) s) (E.makes s h));
 }
-
-pub copied : (x w y : List ℕ) (at : ℕ) → length x ≡ 5940 → at + 5940 ≤ length w → y ≡ take (at + 5940 - at) (drop at w) ++ drop (length (take (at + 5940 - at) (drop at w))) x → y ≡ take 5940 (drop at w)
-copied x w y at l h e =
-    let k : at + 5940 - at ≡ 5940 = omega arith in
-    let n : length (take 5940 (drop at w)) ≡ 5940 = tables.part_length w at 5940 h in
-    let d : drop (length (take 5940 (drop at w))) x ≡ [] = drop_of_length-le x {i = length (take 5940 (drop at w))} (omega arith) in
-    e ∙ ap (λ (m : ℕ). take m (drop at w) ++ drop (length (take m (drop at w))) x) k ∙ ap (λ (z : List ℕ). take 5940 (drop at w) ++ z) d ∙ append-nil (take 5940 (drop at w))

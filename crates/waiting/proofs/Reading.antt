@@ -1,22 +1,22 @@
 -- The readers of one entry. Assumes nothing.
-use Prim.Native.Nat.{ℕ, zero, suc, ◌+◌, ◌-◌, ◌*◌, ◌≤◌, ◌<◌}
+use Rattle.std.specs.Prelude.{Option, Some, None}
+use Rattle.std.specs.Option.{option_map}
+use Rattle.format.proofs.Options.{Some-injective, None-ne-Some}
+use Prim.Native.Nat.{ℕ, zero, suc, ◌+◌, ◌-◌, ◌≤◌, ◌<◌, ◌^◌}
 use native.Mathlib.Nat.{add-zero, not-suc-le-zero, le_of_suc-le-suc}
 use native.Mathlib.Omega.{arith}
 use mathlib.Core.Path.{◌≡◌, refl, sym, ap, ap₂, ◌∙◌, subst}
 use mathlib.Core.List.{List, [], ◌∷◌, ◌++◌, append_assoc}
-use mathlib.Core.Option.{Option, none, some, some-injective, none-ne-some}
 use mathlib.Core.Bool.{Bool, true, false}
 use lib.ListN.{length, take, drop, get_or, length-append, length-drop, take-append-drop}
-use lib.Seq.{get_or-take, get_or-drop, take_at, drop_at, take_all, drop-drop}
+use lib.Seq.{get_or-take, get_or-drop, take_at, drop_at, drop-drop}
 use lib.IntN.{ℤ}
 use lib.Signed.{le_z}
 use lib.Dec.{eqb}
 use mir.Syntax.{w64}
 use mir.Val.{of_z, to_z}
-use mir.Facts.{Fits-of_z, to_z-of_z}
-use Rattle.format.specs.Format.{All, option, list, stamp, bool, via, below as below-format, enum, ◌∣◌, text, big_endian, is_time}
-use Rattle.format.proofs.FormatLaws.{time_fits}
-use Rattle.format.proofs.SizeLaws.{length_digits}
+use Rattle.std.proofs.lemmas.Int.{of_z-to_z}
+use Rattle.format.specs.Format.{All, option, list, stamp, bool, via, below as below-format, enum, ◌∣◌, text}
 use Rattle.spans.specs.Bytes.{zeros}
 use Rattle.spans.proofs.Laws.{drop_zeros}
 use Rattle.tables.specs.Table.{flat, offset}
@@ -26,7 +26,7 @@ use Rattle.model.specs.Event.{Text}
 use Rattle.model.specs.Seam.{ResourceId}
 use Rattle.model.specs.Parts.{Role}
 use Rattle.model.specs.Edits.{Operation}
-use Rattle.model.specs.State.{Pending, Queue, SyncState}
+use Rattle.model.specs.State.{Pending, SyncState}
 use Rattle.model.specs.Limits.{document01, max_text}
 use Rattle.model.specs.Maps.{is_some_and}
 use Rattle.model.specs.Formats.{resource_id, short_text, operation_f, role_f}
@@ -34,51 +34,45 @@ use Rattle.model.specs.Sync.{ids_of, due}
 use Rattle.state.specs.Layout.{padded, field, name_slot}
 use Rattle.state.specs.Fits.{PendingFits}
 use Rattle.state.specs.Contract.{Keeps, HasState, Reads}
-use Rattle.state.specs.Values.{number_in, bits_in}
-use Rattle.state.specs.declared.Numbered.{Numbered}
-use Rattle.state.proofs.Orders.{from_digits}
-use Rattle.state.proofs.Ops.{time_field, time_ok, no_bits}
-use Rattle.state.proofs.Fresh.{no_time}
-use Rattle.waiting.specs.Queues.{below, queue, nth}
-use Rattle.waiting.specs.Entries.{EntryAt}
+use Rattle.state.proofs.Ops.{time_ok, time_read, no_time_is}
+use Rattle.waiting.specs.Queues.{queue, nth}
+use Rattle.waiting.specs.declared.readers.OperationCase.{OperationCase}
+use Rattle.waiting.specs.Entries.{EntryAt, EntryIs, FindsEntry}
 use Rattle.waiting.specs.Texts.{texts_end}
 use Rattle.waiting.specs.Reading.{entry_byte, case_of, operation_case_of, by_attendee, expiry_of, ids_number, nth_id, ReadsId}
-use Rattle.waiting.proofs.Cuts.{Slot, Flat}
+use Rattle.waiting.proofs.Cuts.{Slot}
 use Rattle.waiting.proofs.Lists as lists
 use Rattle.waiting.proofs.Fields as fields
 use Rattle.waiting.proofs.Splices as splices
 use Rattle.waiting.proofs.Texts.{Ids}
-use Rattle.waiting.proofs.Laws as laws
 use Rattle.waiting.proofs.Folds as folds
 use Rattle.waiting.proofs.Folds.{IdsAt}
 
 -- ---- one byte
 
-pub byte_missing : (r : ResourceId) (w : List ℕ) (n j o missing : ℕ) → Reads (λ s. length (queue r s)) w n → n ≤ j → Reads (λ s. entry_byte r o missing (nth j (queue r s))) w missing
-unfolding entry_byte
-byte_missing r w n j o missing N l = record {
-  is = λ s h.
-      let c : n ≡ length (queue r s) = N.is s h in
-      sym (ap (entry_byte r o missing) (lists.nth_none j (queue r s) (omega arith)));
-}
-
 -- the entry that stands there
-pub entry_there : (r : ResourceId) (w : List ℕ) (n i j : ℕ) → resource_id.Ok r → Reads (λ s. length (queue r s)) w n → Reads (λ s. below r s.edits) w i → j < n
-    → (s : SyncState) → Keeps s w → (p : Pending) → nth j (queue r s) ≡ some p → EntryAt r j w s (20002 + (1 + (i + j) * 5940)) p
-entry_there r w n i j k N I l s h p g =
-    let c : n ≡ length (queue r s) = N.is s h in
-    laws.entry_at r h j i (20002 + (1 + (i + j) * 5940)) p k refl (I.is s h) g (omega arith)
+pub entry_room : {r : ResourceId} {j p : ℕ} {w : List ℕ} → HasState w → FindsEntry r j w (Some p) → p + 5940 ≤ 55643
+unfolding EntryIs
+entry_room H F = (F.is H.state H.keeps).is.room
 
-pub byte_there : (r : ResourceId) (w : List ℕ) (n i j o missing v : ℕ) → resource_id.Ok r → Reads (λ s. length (queue r s)) w n → Reads (λ s. below r s.edits) w i → j < n → o < 5940
-    → v ≡ get_or w (20002 + (1 + (i + j) * 5940) + o) 0 → Reads (λ s. entry_byte r o missing (nth j (queue r s))) w v
+entry_there : {r : ResourceId} {j p : ℕ} {w : List ℕ} {s : SyncState} → Keeps s w → FindsEntry r j w (Some p) → (x : Pending) × EntryAt r j w s p x
+unfolding EntryIs
+entry_there {s = s} h F = ((F.is s h).entry, (F.is s h).is)
+
+entry_not : {r : ResourceId} {j : ℕ} {w : List ℕ} {s : SyncState} → Keeps s w → FindsEntry r j w None → nth j (queue r s) ≡ None
+unfolding EntryIs
+entry_not {s = s} h F = F.is s h
+
+pub byte_missing : (r : ResourceId) (w : List ℕ) (j o : ℕ) (v : Option ℕ) → FindsEntry r j w None → v ≡ None → Reads (λ s. entry_byte r o (nth j (queue r s))) w v
 unfolding entry_byte
-byte_there r w n i j o missing v k N I l m e = record {
+byte_missing r w j o v F e = record { is = λ s h. e ∙ sym (ap (entry_byte r o) (entry_not h F)) }
+
+pub byte_there : (r : ResourceId) (w : List ℕ) (j o p v : ℕ) → FindsEntry r j w (Some p) → o < 5940 → v ≡ get_or w (p + o) 0 → Reads (λ s. entry_byte r o (nth j (queue r s))) w (Some v)
+unfolding entry_byte
+byte_there r w j o p v F m e = record {
   is = λ s h.
-      let c : n ≡ length (queue r s) = N.is s h in
-      let g = lists.nth_some j (queue r s) (omega arith) in
-      let E = entry_there r w n i j k N I l s h g.0 g.1 in
-      let p : ℕ = 20002 + (1 + (i + j) * 5940) in
-      e ∙ sym (get_or-drop p w o 0) ∙ sym (get_or-take 5940 (drop p w) o 0 m) ∙ ap (λ (x : List ℕ). get_or x o 0) E.slot ∙ sym (ap (entry_byte r o missing) g.1);
+      let E = (entry_there h F).1 in
+      ap Some (e ∙ sym (get_or-drop p w o 0) ∙ sym (get_or-take 5940 (drop p w) o 0 m) ∙ ap (λ (x : List ℕ). get_or x o 0) E.slot) ∙ sym (ap (entry_byte r o) E.got);
 }
 
 -- the first byte of a field
@@ -88,8 +82,14 @@ first_of r p m ok k h l =
     ap (λ (x : List ℕ). get_or x o 0) (fields.slot_is r p) ∙ ap (λ (i : ℕ). get_or (flat (fields.fields r p)) i 0) (sym (add-zero o)) ∙ sym (get_or-drop o (flat (fields.fields r p)) 0 0)
     ∙ sym (get_or-take (get_or fields.widths k 0) (drop o (flat (fields.fields r p))) 0 0 l) ∙ ap (λ (x : List ℕ). get_or x 0 0) (fields.field_of k (fields.fields r p) (fields.fields_long r p m ok) h)
 
+-- the case that a byte names
+abbrev pub case_named : ℕ → OperationCase
+case_named zero = OperationCase.Create
+case_named (suc zero) = OperationCase.Update
+case_named (suc (suc n)) = OperationCase.Delete
+
 module _ (r : ResourceId) (k : resource_id.Ok r) where
-  case_byte : (o : Operation) → get_or (field 1469 operation_f o) 0 0 ≡ case_of o
+  case_byte : (o : Operation) → case_named (get_or (field 1469 operation_f o) 0 0) ≡ case_of o
   unfolding operation_f via enum ◌∣◌ padded
   case_byte (Operation.Create event) = refl
   case_byte (Operation.Update base ours) = refl
@@ -105,32 +105,51 @@ module _ (r : ResourceId) (k : resource_id.Ok r) where
   bool_byte true = refl
   bool_byte false = refl
 
+pub told : {A : Type 0} {f : SyncState → A} {w : List ℕ} {x y : A} → x ≡ y → Reads f w y → Reads f w x
+told {f = f} {w} e R = subst (Reads f w) (sym e) R
+
 -- what a byte of the entry says
-pub says : {A : Type 0} (r : ResourceId) (w : List ℕ) (o missing v : ℕ) (j : ℕ) (f : ℕ → A) (g : Option Pending → A) → Reads (λ s. entry_byte r o missing (nth j (queue r s))) w v
-    → f missing ≡ g none → ((p : Pending) → PendingFits document01 r p → f (get_or (Slot r p) o 0) ≡ g (some p)) → Reads (λ s. g (nth j (queue r s))) w (f v)
+pub says : {A : Type 0} (r : ResourceId) (w : List ℕ) (o : ℕ) (v : Option ℕ) (j : ℕ) (f : Option ℕ → A) (g : Option Pending → A) → Reads (λ s. entry_byte r o (nth j (queue r s))) w v
+    → f None ≡ g None → ((p : Pending) → PendingFits document01 r p → f (Some (get_or (Slot r p) o 0)) ≡ g (Some p)) → Reads (λ s. g (nth j (queue r s))) w (f v)
 unfolding entry_byte
-says r w o missing v j f g R e t = record {
+says r w o v j f g R e t = record {
   is = λ s h.
       ap f (R.is s h) ∙ go (nth j (queue r s)) (λ p q. lists.nth_all (PendingFits document01 r) j (queue r s) p (splices.cut_of r h).own q);
 }
   where
-    go : (x : Option Pending) → ((p : Pending) → x ≡ some p → PendingFits document01 r p) → f (entry_byte r o missing x) ≡ g x
-    go none m = e
-    go (some p) m = t p (m p refl)
+    go : (x : Option Pending) → ((p : Pending) → x ≡ Some p → PendingFits document01 r p) → f (entry_byte r o x) ≡ g x
+    go None m = e
+    go (Some p) m = t p (m p refl)
 
-pub case_read : (r : ResourceId) (w : List ℕ) (v j : ℕ) → resource_id.Ok r → Reads (λ s. entry_byte r 66 3 (nth j (queue r s))) w v → Reads (λ s. operation_case_of (nth j (queue r s))) w v
+case_read : (r : ResourceId) (w : List ℕ) (v : Option ℕ) (j : ℕ) → resource_id.Ok r → Reads (λ s. entry_byte r 66 (nth j (queue r s))) w v → Reads (λ s. operation_case_of (nth j (queue r s))) w (option_map case_named v)
 unfolding operation_case_of
-case_read r w v j k R = says r w 66 3 v j (λ x. x) operation_case_of R refl (λ p ok. first_of r p k ok 2 (omega arith) (omega arith) ∙ case_byte r k p.edit.operation)
+case_read r w v j k R =
+    says r w 66 v j (option_map case_named) operation_case_of R refl (λ p ok. ap Some (ap case_named (first_of r p k ok 2 (omega arith) (omega arith)) ∙ case_byte r k p.edit.operation))
 
-pub role_read : (r : ResourceId) (w : List ℕ) (v j : ℕ) → resource_id.Ok r → Reads (λ s. entry_byte r 1535 0 (nth j (queue r s))) w v → Reads (λ s. is_some_and (λ p. by_attendee p.edit.role) (nth j (queue r s))) w (eqb v 1)
+pub case_none : (r : ResourceId) (w : List ℕ) (x : Option OperationCase) (j : ℕ) → resource_id.Ok r → Reads (λ s. entry_byte r 66 (nth j (queue r s))) w None → x ≡ None → Reads (λ s. operation_case_of (nth j (queue r s))) w x
+case_none r w x j k R e = subst (Reads (λ s. operation_case_of (nth j (queue r s))) w) (sym e) (case_read r w None j k R)
+
+pub case_some : (r : ResourceId) (w : List ℕ) (v : ℕ) (x : OperationCase) (j : ℕ) → resource_id.Ok r → Reads (λ s. entry_byte r 66 (nth j (queue r s))) w (Some v) → case_named v ≡ x → Reads (λ s. operation_case_of (nth j (queue r s))) w (Some x)
+case_some r w v x j k R e = subst (λ (y : OperationCase). Reads (λ s. operation_case_of (nth j (queue r s))) w (Some y)) e (case_read r w (Some v) j k R)
+
+pub other_named : (n : ℕ) → (n ≡ 0 → ⊥) → (n ≡ 1 → ⊥) → case_named n ≡ OperationCase.Delete
+other_named zero a b = absurd (a refl)
+other_named (suc zero) a b = absurd (b refl)
+other_named (suc (suc n)) a b = refl
+
+abbrev pub is_one : Option ℕ → Bool
+is_one None = false
+is_one (Some n) = eqb n 1
+
+pub role_read : (r : ResourceId) (w : List ℕ) (v : Option ℕ) (j : ℕ) → resource_id.Ok r → Reads (λ s. entry_byte r 1535 (nth j (queue r s))) w v → Reads (λ s. is_some_and (λ p. by_attendee p.edit.role) (nth j (queue r s))) w (is_one v)
 unfolding is_some_and
 role_read r w v j k R =
-    says r w 1535 0 v j (λ x. eqb x 1) (is_some_and (λ p. by_attendee p.edit.role)) R refl (λ p ok. ap (λ (x : ℕ). eqb x 1) (first_of r p k ok 3 (omega arith) (omega arith)) ∙ role_byte r k p.edit.role)
+    says r w 1535 v j is_one (is_some_and (λ p. by_attendee p.edit.role)) R refl (λ p ok. ap (λ (x : ℕ). eqb x 1) (first_of r p k ok 3 (omega arith) (omega arith)) ∙ role_byte r k p.edit.role)
 
-pub collided_read : (r : ResourceId) (w : List ℕ) (v j : ℕ) → resource_id.Ok r → Reads (λ s. entry_byte r 5674 0 (nth j (queue r s))) w v → Reads (λ s. is_some_and (λ p. p.collided) (nth j (queue r s))) w (eqb v 1)
+pub collided_read : (r : ResourceId) (w : List ℕ) (v : Option ℕ) (j : ℕ) → resource_id.Ok r → Reads (λ s. entry_byte r 5674 (nth j (queue r s))) w v → Reads (λ s. is_some_and (λ p. p.collided) (nth j (queue r s))) w (is_one v)
 unfolding is_some_and
 collided_read r w v j k R =
-    says r w 5674 0 v j (λ x. eqb x 1) (is_some_and (λ p. p.collided)) R refl (λ p ok. ap (λ (x : ℕ). eqb x 1) (first_of r p k ok 7 (omega arith) (omega arith)) ∙ bool_byte r k p.collided)
+    says r w 5674 v j is_one (is_some_and (λ p. p.collided)) R refl (λ p ok. ap (λ (x : ℕ). eqb x 1) (first_of r p k ok 7 (omega arith) (omega arith)) ∙ bool_byte r k p.collided)
 
 -- ---- the number of ids
 
@@ -141,118 +160,63 @@ list_byte ids = refl
 count_of : (r : ResourceId) (p : Pending) → resource_id.Ok r → PendingFits document01 r p → get_or (Slot r p) 5675 0 ≡ length p.absorbed
 count_of r p k ok = first_of r p k ok 8 (omega arith) (omega arith) ∙ list_byte p.absorbed
 
-few_ids : (r : ResourceId) (p : Pending) → PendingFits document01 r p → length p.absorbed ≤ 8
-unfolding document01 list
-few_ids r p ok = ok.absorbed.0
+abbrev pub ids_said : Option ℕ → ℕ
+ids_said None = 0
+ids_said (Some n) = 1 + n
 
--- by cases on the entry
-entry_cases : {A : Type 0} (r : ResourceId) (w : List ℕ) (o missing v j : ℕ) (a : A) (g : Option Pending → A) → Reads (λ s. entry_byte r o missing (nth j (queue r s))) w v
-    → (v ≡ missing → a ≡ g none) → ((s : SyncState) → Keeps s w → (p : Pending) → nth j (queue r s) ≡ some p → PendingFits document01 r p → v ≡ get_or (Slot r p) o 0 → a ≡ g (some p)) → Reads (λ s. g (nth j (queue r s))) w a
-unfolding entry_byte
-entry_cases {A} r w o missing v j a g R e t = record { is = λ s h. go s h (nth j (queue r s)) refl (R.is s h) }
-  where
-    go : (s : SyncState) → Keeps s w → (x : Option Pending) → nth j (queue r s) ≡ x → v ≡ entry_byte r o missing (nth j (queue r s)) → a ≡ g (nth j (queue r s))
-    go s h none q f = e (f ∙ ap (entry_byte r o missing) q) ∙ ap g (sym q)
-    go s h (some p) q f = t s h p q (lists.nth_all (PendingFits document01 r) j (queue r s) p (splices.cut_of r h).own q) (f ∙ ap (entry_byte r o missing) q) ∙ ap g (sym q)
-
-pub number_none : (r : ResourceId) (w : List ℕ) (v j : ℕ) → resource_id.Ok r → Reads (λ s. entry_byte r 5675 255 (nth j (queue r s))) w v → v ≡ 255 → Reads (λ s. ids_number (nth j (queue r s))) w 0
-unfolding ids_number
-number_none r w v j k R l = entry_cases r w 5675 255 v j 0 ids_number R (λ e. refl)
-    (λ s h p g ok e.
-    let c : get_or (Slot r p) 5675 0 ≡ length p.absorbed = count_of r p k ok in
-    let f : length p.absorbed ≤ 8 = few_ids r p ok in
-    absurd (omega arith))
-
-pub number_some : (r : ResourceId) (w : List ℕ) (v j : ℕ) → resource_id.Ok r → Reads (λ s. entry_byte r 5675 255 (nth j (queue r s))) w v → (v ≡ 255 → ⊥) → Reads (λ s. ids_number (nth j (queue r s))) w (1 + v)
+pub number_read : (r : ResourceId) (w : List ℕ) (v : Option ℕ) (j : ℕ) → resource_id.Ok r → Reads (λ s. entry_byte r 5675 (nth j (queue r s))) w v → Reads (λ s. ids_number (nth j (queue r s))) w (ids_said v)
 unfolding ids_number ids_of
-number_some r w v j k R l = entry_cases r w 5675 255 v j (1 + v) ids_number R (λ e. absurd (l e))
-    (λ s h p g ok e.
-    let c : get_or (Slot r p) 5675 0 ≡ length p.absorbed = count_of r p k ok in
-    omega arith)
+number_read r w v j k R = says r w 5675 v j ids_said ids_number R refl (λ p ok. let c : get_or (Slot r p) 5675 0 ≡ length p.absorbed = count_of r p k ok in omega arith)
+
+pub number_some : (r : ResourceId) (w : List ℕ) (v n j : ℕ) → resource_id.Ok r → Reads (λ s. entry_byte r 5675 (nth j (queue r s))) w (Some v) → n ≡ v → Reads (λ s. ids_number (nth j (queue r s))) w (1 + n)
+number_some r w v n j k R e = subst (λ (x : ℕ). Reads (λ s. ids_number (nth j (queue r s))) w (1 + x)) (sym e) (number_read r w (Some v) j k R)
 
 -- ---- the expiry
 
-expiry_byte : (r : ResourceId) (p : Pending) → resource_id.Ok r → PendingFits document01 r p → get_or (Slot r p) 1569 0 ≡ get_or (field 9 (option stamp) p.edit.expires_at) 0 0
-expiry_byte r p k ok = first_of r p k ok 4 (omega arith) (omega arith)
-
-pub expiry_none : (r : ResourceId) (w : List ℕ) (v j : ℕ) → resource_id.Ok r → Reads (λ s. entry_byte r 1569 0 (nth j (queue r s))) w v → v ≡ 0 → Reads (λ s. bits_in (expiry_of (nth j (queue r s)))) w none
+pub expiry_none : (r : ResourceId) (w : List ℕ) (j : ℕ) (x : Option ℤ) → FindsEntry r j w None → x ≡ None → Reads (λ s. expiry_of (nth j (queue r s))) w x
 unfolding expiry_of
-expiry_none r w v j k R l = entry_cases r w 1569 0 v j none (λ x. bits_in (expiry_of x)) R (λ e. refl) (λ s h p g ok e. no_bits p.edit.expires_at (sym (e ∙ expiry_byte r p k ok) ∙ l))
+expiry_none r w j x F e = record { is = λ s h. e ∙ sym (ap expiry_of (entry_not h F)) }
 
-nth_below : (j : ℕ) (q : Queue) (p : Pending) → nth j q ≡ some p → j < length q
-unfolding nth
-nth_below j [] p e = absurd (none-ne-some p e)
-nth_below zero (x ∷ q) p e = omega arith
-nth_below (suc j) (x ∷ q) p e = let h : j < length q = nth_below j q p e in omega arith
+-- the byte that says whether there is a time, and its bits behind it
+module _ (r : ResourceId) (w : List ℕ) (j p : ℕ) (F : FindsEntry r j w (Some p)) where
+  time_byte : {s : SyncState} (h : Keeps s w) → get_or w (p + 1569) 0 ≡ get_or (field 9 (option stamp) (entry_there h F).0.edit.expires_at) 0 0
+  time_byte h =
+      let z : p + 1569 + 0 ≡ p + 1569 = add-zero (p + 1569) in
+      ap (λ (i : ℕ). get_or w i 0) (sym z) ∙ sym (get_or-drop (p + 1569) w 0 0) ∙ sym (get_or-take 9 (drop (p + 1569) w) 0 0 (omega arith)) ∙ ap (λ (x : List ℕ). get_or x 0 0) (entry_there h F).1.expires_at
 
--- a byte that is not that of a missing entry is one's
-pub there_below : (r : ResourceId) (w : List ℕ) (i j o missing v : ℕ) → HasState w → Reads (λ s. entry_byte r o missing (nth j (queue r s))) w v → Reads (λ s. below r s.edits) w i → (v ≡ missing → ⊥) → i + j < 6
-unfolding entry_byte document01
-there_below r w i j o missing v H R I l = go (nth j (queue r H.state)) refl (R.is H.state H.keeps)
-  where
-    go : (x : Option Pending) → nth j (queue r H.state) ≡ x → v ≡ entry_byte r o missing (nth j (queue r H.state)) → i + j < 6
-    go none q e = absurd (l (e ∙ ap (entry_byte r o missing) q))
-    go (some p) q e =
-        let a = splices.rows_count r H.keeps in
-        let b : length (Flat H.state.edits) ≤ 6 = H.keeps.fits.edits.small in
-        let c : j < length (queue r H.state) = nth_below j (queue r H.state) p q in
-        let d : i ≡ below r H.state.edits = I.is H.state H.keeps in
-        omega arith
+  pub expiry_unset : get_or w (p + 1569) 0 ≡ 0 → Reads (λ s. expiry_of (nth j (queue r s))) w None
+  unfolding expiry_of
+  expiry_unset e = record { is = λ s h. let x = entry_there h F in no_time_is x.0.edit.expires_at (sym (time_byte h) ∙ e) ∙ sym (ap expiry_of x.1.got) }
 
-pub there_at : (r : ResourceId) (w : List ℕ) (i j : ℕ) → resource_id.Ok r → Reads (λ s. below r s.edits) w i → (s : SyncState) → Keeps s w → (p : Pending) → nth j (queue r s) ≡ some p → EntryAt r j w s (20002 + (1 + (i + j) * 5940)) p
-there_at r w i j k I s h p g = laws.entry_at r h j i (20002 + (1 + (i + j) * 5940)) p k refl (I.is s h) g (nth_below j (queue r s) p g)
-
-pub expiry_some : (r : ResourceId) (w : List ℕ) (v i j bits : ℕ) → resource_id.Ok r → Reads (λ s. entry_byte r 1569 0 (nth j (queue r s))) w v → Reads (λ s. below r s.edits) w i → (v ≡ 0 → ⊥)
-    → bits ≡ from_be 0 (take 8 (drop (20002 + (1 + (i + j) * 5940) + 1570) w)) → Reads (λ s. bits_in (expiry_of (nth j (queue r s)))) w (some bits)
-unfolding expiry_of
-expiry_some r w v i j bits k R I l q =
-    entry_cases r w 1569 0 v j (some bits) (λ x. bits_in (expiry_of x)) R (λ e. absurd (l e))
-    (λ s h p g ok e. go p.edit.expires_at (time_ok p.edit.expires_at) ok.expires_at (there_at r w i j k I s h p g).expires_at (λ z. l (e ∙ expiry_byte r p k ok ∙ z)))
-  where
-    go : (x : Option ℤ) → ((t : ℤ) → (option stamp).Ok x → x ≡ some t → is_time t ≡ true) → (option stamp).Ok x → take 9 (drop (20002 + (1 + (i + j) * 5940) + 1569) w) ≡ field 9 (option stamp) x
-        → (get_or (field 9 (option stamp) x) 0 0 ≡ 0 → ⊥) → some bits ≡ bits_in x
-    go none m ok e f = absurd (f (ap (λ (y : List ℕ). get_or y 0 0) no_time))
-    go (some t) m ok e f =
-        let n : 20002 + (1 + (i + j) * 5940) + 1570 ≡ 20002 + (1 + (i + j) * 5940) + 1569 + 1 = omega arith in
-        let b : take 8 (drop (20002 + (1 + (i + j) * 5940) + 1570) w) ≡ big_endian 8 (of_z w64 t) =
-        ap (λ (a : ℕ). take 8 (drop a w)) n ∙ tables.field_of w 9 (20002 + (1 + (i + j) * 5940) + 1569) 1 8 (omega arith) ∙ ap (λ (y : List ℕ). take 8 (drop 1 y)) (e ∙ time_field t) ∙ take_all 8 (big_endian 8 (of_z w64 t)) (omega (arith, length_digits 8 (of_z w64 t))) in
-        ap some (q ∙ ap (from_be 0) b ∙ from_digits (of_z w64 t) (Fits-of_z (time_fits t (m t ok refl))).fits)
+  pub expiry_set : (bits : ℕ) (t : ℤ) → bits < 2 ^ 64 → (get_or w (p + 1569) 0 ≡ 0 → ⊥) → bits ≡ from_be 0 (take 8 (drop (p + 1569 + 1) w)) → t ≡ to_z w64 bits
+      → Reads (λ s. expiry_of (nth j (queue r s))) w (Some (to_z w64 (of_z w64 t)))
+  unfolding expiry_of
+  expiry_set bits t l z q e = record {
+    is = λ s h.
+        let x = entry_there h F in
+        let d : take 8 (drop (p + 1569 + 1) w) ≡ take 8 (drop 1 (take 9 (drop (p + 1569) w))) = tables.field_of w 9 (p + 1569) 1 8 (omega arith) in
+        ap (λ (y : ℤ). Some (to_z w64 (of_z w64 y))) e ∙ ap (λ (y : ℕ). Some (to_z w64 y)) (of_z-to_z w64 bits l)
+        ∙ time_read (take 9 (drop (p + 1569) w)) bits x.0.edit.expires_at (time_ok x.0.edit.expires_at) x.1.fits.expires_at x.1.expires_at (λ y. z (time_byte h ∙ y)) (q ∙ ap (from_be 0) d)
+        ∙ sym (ap expiry_of x.1.got);
+  }
 
 -- ---- whether it is due
 
-pub due_none : (r : ResourceId) (w : List ℕ) (j : ℕ) (at : ℤ) → Reads (λ s. bits_in (expiry_of (nth j (queue r s)))) w none → Reads (λ s. is_some_and (λ p. due at p.edit) (nth j (queue r s))) w false
+abbrev pub is_past : ℤ → Option ℤ → Bool
+is_past at None = false
+is_past at (Some t) = le_z t at
+
+pub due_read : (r : ResourceId) (w : List ℕ) (j : ℕ) (at : ℤ) (x : Option ℤ) → Reads (λ s. expiry_of (nth j (queue r s))) w x → Reads (λ s. is_some_and (λ p. due at p.edit) (nth j (queue r s))) w (is_past at x)
 unfolding expiry_of is_some_and due
-due_none r w j at R = record { is = λ s h. go (nth j (queue r s)) (R.is s h) }
+due_read r w j at x R = record { is = λ s h. ap (is_past at) (R.is s h) ∙ go (nth j (queue r s)) }
   where
-    on : (x : Option ℤ) → none ≡ bits_in x → false ≡ is_some_and (λ t. le_z t at) x
-    on none e = refl
-    on (some t) e = absurd (none-ne-some (of_z w64 t) e)
+    on : (x : Option ℤ) → is_past at x ≡ is_some_and (λ t. le_z t at) x
+    on None = refl
+    on (Some t) = refl
 
-    go : (x : Option Pending) → none ≡ bits_in (expiry_of x) → false ≡ is_some_and (λ p. due at p.edit) x
-    go none e = refl
-    go (some p) e = on p.edit.expires_at e
-
-pub due_some : (r : ResourceId) (w : List ℕ) (j bits : ℕ) (at x y : ℤ) → Reads (λ s. bits_in (expiry_of (nth j (queue r s)))) w (some bits) → x ≡ to_z w64 bits → y ≡ at
-    → Reads (λ s. is_some_and (λ p. due at p.edit) (nth j (queue r s))) w (le_z (to_z w64 (of_z w64 x)) y)
-unfolding expiry_of is_some_and due
-due_some r w j bits at x y R q u = record {
-  is = λ s h. go (nth j (queue r s)) (λ p g. (lists.nth_all (PendingFits document01 r) j (queue r s) p (splices.cut_of r h).own g).expires_at) (R.is s h);
-}
-  where
-    on : (o : Option ℤ) → (option stamp).Ok o → some bits ≡ bits_in o → le_z (to_z w64 (of_z w64 x)) y ≡ is_some_and (λ t. le_z t at) o
-    on none ok e = absurd (none-ne-some bits (sym e))
-    on (some t) ok e =
-        let f = to_z-of_z (time_fits t (time_ok (some t) t ok refl)) in
-        let b : x ≡ t = q ∙ ap (to_z w64) (some-injective bits (of_z w64 t) e) ∙ f in
-        ap₂ le_z (ap (λ (v : ℤ). to_z w64 (of_z w64 v)) b ∙ f) u
-
-    go : (o : Option Pending) → ((p : Pending) → o ≡ some p → (option stamp).Ok p.edit.expires_at) → some bits ≡ bits_in (expiry_of o) → le_z (to_z w64 (of_z w64 x)) y ≡ is_some_and (λ p. due at p.edit) o
-    go none f e = absurd (none-ne-some bits (sym e))
-    go (some p) f e = on p.edit.expires_at (f p refl) e
-
--- a number that is told by its case
-pub told : (f : SyncState → Option ℕ) (w : List ℕ) (n m : Numbered) → Reads f w (number_in n) → n ≡ m → Reads f w (number_in m)
-told f w n m R e = subst (λ (x : Numbered). Reads f w (number_in x)) e R
+    go : (x : Option Pending) → is_past at (expiry_of x) ≡ is_some_and (λ p. due at p.edit) x
+    go None = refl
+    go (Some p) = on p.edit.expires_at
 
 -- ---- one id
 
@@ -287,31 +251,31 @@ field_text w at id ok e = record {
   ok = ok;
 }
 
-ids_split : (k : ℕ) (ids : List Text) (id : Text) → nth_id k ids ≡ some id → Ids ids ≡ Ids (take k ids) ++ (short_text.enc id ++ Ids (drop (suc k) ids))
+ids_split : (k : ℕ) (ids : List Text) (id : Text) → nth_id k ids ≡ Some id → Ids ids ≡ Ids (take k ids) ++ (short_text.enc id ++ Ids (drop (suc k) ids))
 unfolding nth_id
-ids_split k [] id e = absurd (none-ne-some id e)
-ids_split zero (x ∷ ids) id e = ap (λ (y : Text). short_text.enc y ++ Ids ids) (some-injective x id e)
+ids_split k [] id e = absurd (None-ne-Some id e)
+ids_split zero (x ∷ ids) id e = ap (λ (y : Text). short_text.enc y ++ Ids ids) (Some-injective x id e)
 ids_split (suc k) (x ∷ ids) id e = ap (λ (y : List ℕ). short_text.enc x ++ y) (ids_split k ids id e) ∙ sym (append_assoc (short_text.enc x) (Ids (take k ids)) (short_text.enc id ++ Ids (drop (suc k) ids)))
 
-nth_id_ok : (k : ℕ) (ids : List Text) (id : Text) → All short_text.Ok ids → nth_id k ids ≡ some id → short_text.Ok id
+nth_id_ok : (k : ℕ) (ids : List Text) (id : Text) → All short_text.Ok ids → nth_id k ids ≡ Some id → short_text.Ok id
 unfolding nth_id
-nth_id_ok k [] id a e = absurd (none-ne-some id e)
-nth_id_ok zero (x ∷ ids) id a e = subst short_text.Ok (some-injective x id e) a.0
+nth_id_ok k [] id a e = absurd (None-ne-Some id e)
+nth_id_ok zero (x ∷ ids) id a e = subst short_text.Ok (Some-injective x id e) a.0
 nth_id_ok (suc k) (x ∷ ids) id a e = nth_id_ok k ids id a.1 e
 
-nth_id_below : (k : ℕ) (ids : List Text) (id : Text) → nth_id k ids ≡ some id → k < length ids
+nth_id_below : (k : ℕ) (ids : List Text) (id : Text) → nth_id k ids ≡ Some id → k < length ids
 unfolding nth_id
-nth_id_below k [] id e = absurd (none-ne-some id e)
+nth_id_below k [] id e = absurd (None-ne-Some id e)
 nth_id_below zero (x ∷ ids) id e = omega arith
 nth_id_below (suc k) (x ∷ ids) id e = let h : k < length ids = nth_id_below k ids id e in omega arith
 
-pub nth_id_some : (k : ℕ) (ids : List Text) → k < length ids → (id : Text) × (nth_id k ids ≡ some id)
+pub nth_id_some : (k : ℕ) (ids : List Text) → k < length ids → (id : Text) × (nth_id k ids ≡ Some id)
 unfolding nth_id
 nth_id_some k [] h = absurd (not-suc-le-zero h)
 nth_id_some zero (x ∷ ids) h = (x, refl)
 nth_id_some (suc k) (x ∷ ids) h = nth_id_some k ids (le_of_suc-le-suc h)
 
-absorbed_text : (w : List ℕ) (p k : ℕ) (ids : List Text) (id : Text) → All short_text.Ok ids → IdsAt w p ids → nth_id k ids ≡ some id → TextAt w (texts_end k w (p + 5676)) id
+absorbed_text : (w : List ℕ) (p k : ℕ) (ids : List Text) (id : Text) → All short_text.Ok ids → IdsAt w p ids → nth_id k ids ≡ Some id → TextAt w (texts_end k w (p + 5676)) id
 absorbed_text w p k ids id a J g =
     let l : k < length ids = nth_id_below k ids id g in
     let X : List ℕ = Ids (take k ids) in
@@ -329,79 +293,61 @@ unfolding document01 list
 all_ids r p ok = ok.absorbed.1
 
 -- the place of the k-th id: the entry's own at 33, the others in the list
-module _ (r : ResourceId) (w : List ℕ) (i j : ℕ) (m : resource_id.Ok r) (I : Reads (λ s. below r s.edits) w i) where
-  own_text : (s : SyncState) → Keeps s w → (p : Pending) → nth j (queue r s) ≡ some p → TextAt w (20002 + (1 + (i + j) * 5940) + 33) p.edit.id
-  own_text s h p g = let E = there_at r w i j m I s h p g in field_text w (20002 + (1 + (i + j) * 5940) + 33) p.edit.id E.fits.id E.id
+module _ {r : ResourceId} {w : List ℕ} {j p : ℕ} (F : FindsEntry r j w (Some p)) where
+  own_text : {s : SyncState} (h : Keeps s w) → TextAt w (p + 33) (entry_there h F).0.edit.id
+  own_text h = let E = (entry_there h F).1 in field_text w (p + 33) (entry_there h F).0.edit.id E.fits.id E.id
 
-  more_text : (s : SyncState) → Keeps s w → (p : Pending) → nth j (queue r s) ≡ some p → (k : ℕ) (id : Text) → nth_id k p.absorbed ≡ some id → TextAt w (texts_end k w (20002 + (1 + (i + j) * 5940) + 5676)) id
-  more_text s h p g k id e =
-      let E = there_at r w i j m I s h p g in
-      absorbed_text w (20002 + (1 + (i + j) * 5940)) k p.absorbed id (all_ids r p E.fits) (folds.ids_at r j (20002 + (1 + (i + j) * 5940)) p E) e
+  ids_there : {s : SyncState} (h : Keeps s w) → IdsAt w p (entry_there h F).0.absorbed
+  ids_there h = folds.ids_at r j p (entry_there h F).0 (entry_there h F).1
 
--- an entry that has ids
-some_entry : (r : ResourceId) (s : SyncState) (j n k : ℕ) → n ≡ ids_number (nth j (queue r s)) → k < n → (p : Pending) × (nth j (queue r s) ≡ some p) × (n ≡ suc (length p.absorbed))
-unfolding ids_number ids_of
-some_entry r s j n k e l = go (nth j (queue r s)) refl e
-  where
-    go : (x : Option Pending) → nth j (queue r s) ≡ x → n ≡ ids_number x → (p : Pending) × (nth j (queue r s) ≡ some p) × (n ≡ suc (length p.absorbed))
-    go none q f = absurd (let z : n ≡ 0 = f in omega arith)
-    go (some p) q f = (p, q, f)
+  more_text : {s : SyncState} (h : Keeps s w) (k : ℕ) (id : Text) → nth_id k (entry_there h F).0.absorbed ≡ Some id → TextAt w (texts_end k w (p + 5676)) id
+  more_text h k id e = let x = entry_there h F in absorbed_text w p k x.0.absorbed id (all_ids r x.0 x.1.fits) (ids_there h) e
 
-pub id_below : (r : ResourceId) (w : List ℕ) (n i j k : ℕ) → HasState w → Reads (λ s. ids_number (nth j (queue r s))) w n → Reads (λ s. below r s.edits) w i → k < n → i + j < 6
-unfolding document01
-id_below r w n i j k H N I l =
-    let s = H.state in
-    let h = H.keeps in
-    let g = some_entry r s j n k (N.is s h) l in
-    let a = splices.rows_count r h in
-    let b : length (Flat s.edits) ≤ 6 = h.fits.edits.small in
-    let c : j < length (queue r s) = nth_below j (queue r s) g.0 g.1 in
-    let d : i ≡ below r s.edits = I.is s h in
-    omega arith
+  pub own_room : HasState w → (p + 33 < length w) × (get_or w (p + 33) 0 ≤ 32) × (p + 33 + (1 + get_or w (p + 33) 0) ≤ length w)
+  own_room H = text_room w (p + 33) (entry_there H.keeps F).0.edit.id (own_text H.keeps)
 
-pub own_room : (r : ResourceId) (w : List ℕ) (n i j k : ℕ) → resource_id.Ok r → HasState w → Reads (λ s. ids_number (nth j (queue r s))) w n → Reads (λ s. below r s.edits) w i → k < n
-    → let at : ℕ = 20002 + (1 + (i + j) * 5940) + 33 in (at < length w) × (get_or w at 0 ≤ 32) × (at + (1 + get_or w at 0) ≤ length w)
-own_room r w n i j k m H N I l =
-    let g = some_entry r H.state j n k (N.is H.state H.keeps) l in
-    text_room w (20002 + (1 + (i + j) * 5940) + 33) g.0.edit.id (own_text r w i j m I H.state H.keeps g.0 g.1)
+  pub more_room : (k at : ℕ) → HasState w → k ≤ get_or w (p + 5675) 0 → 0 < k → at ≡ texts_end (k - 1) w (p + 5676) → (at < length w) × (get_or w at 0 ≤ 32) × (at + (1 + get_or w at 0) ≤ length w)
+  more_room k at H l o e =
+      let c : get_or w (p + 5675) 0 ≡ length (entry_there H.keeps F).0.absorbed = (ids_there H.keeps).count in
+      let x = nth_id_some (k - 1) (entry_there H.keeps F).0.absorbed (omega arith) in
+      text_room w at x.0 (subst (λ (a : ℕ). TextAt w a x.0) (sym e) (more_text H.keeps (k - 1) x.0 x.1))
 
-pub more_room : (r : ResourceId) (w : List ℕ) (n i j k at : ℕ) → resource_id.Ok r → HasState w → Reads (λ s. ids_number (nth j (queue r s))) w n → Reads (λ s. below r s.edits) w i → k < n → 0 < k
-    → at ≡ texts_end (k - 1) w (20002 + (1 + (i + j) * 5940) + 5676) → (at < length w) × (get_or w at 0 ≤ 32) × (at + (1 + get_or w at 0) ≤ length w)
-more_room r w n i j k at m H N I l o e =
-    let g = some_entry r H.state j n k (N.is H.state H.keeps) l in
-    let c : n ≡ suc (length g.0.absorbed) = g.2 in
-    let x = nth_id_some (k - 1) g.0.absorbed (omega arith) in
-    text_room w at x.0 (subst (λ (a : ℕ). TextAt w a x.0) (sym e) (more_text r w i j m I H.state H.keeps g.0 g.1 (k - 1) x.0 x.1))
+  -- what stands in another entry's place is the same entry
+  same_entry : {s : SyncState} (h : Keeps s w) (x : Pending) → nth j (queue r s) ≡ Some x → (entry_there h F).0 ≡ x
+  same_entry h x g = Some-injective (entry_there h F).0 x (sym (entry_there h F).1.got ∙ g)
 
-pub id_none : (r : ResourceId) (w b : List ℕ) (n j k : ℕ) → Reads (λ s. ids_number (nth j (queue r s))) w n → n ≤ k → ReadsId r j k w b
-unfolding ids_number
-id_none r w b n j k N l = record {
-  is = λ s h p g id e.
-      let c : n ≡ length (ids_of p) = N.is s h ∙ ap ids_number g in
-      let d : k < length (ids_of p) = nth_id_below k (ids_of p) id e in
-      absurd (omega arith);
-}
+  pub id_past : (b : List ℕ) (k : ℕ) → get_or w (p + 5675) 0 < k → ReadsId r j k w b
+  unfolding ids_of
+  id_past b k l = record {
+    is = λ s h x g id e.
+        let c : get_or w (p + 5675) 0 ≡ length x.absorbed = (ids_there h).count ∙ ap (λ (y : Pending). length y.absorbed) (same_entry h x g) in
+        let d : k < length (ids_of x) = nth_id_below k (ids_of x) id e in
+        absurd (omega arith);
+  }
 
-pub id_own : (r : ResourceId) (w b : List ℕ) (i j k : ℕ) → resource_id.Ok r → Reads (λ s. below r s.edits) w i → k ≡ 0
-    → b ≡ padded 33 (take (1 + get_or w (20002 + (1 + (i + j) * 5940) + 33) 0) (drop (20002 + (1 + (i + j) * 5940) + 33) w)) → ReadsId r j k w b
-unfolding nth_id ids_of
-id_own r w b i j k m I l q = record {
-  is = λ s h p g id e.
-      let T = own_text r w i j m I s h p g in
-      let f : p.edit.id ≡ id = some-injective p.edit.id id (ap (λ (x : ℕ). nth_id x (p.edit.id ∷ p.absorbed)) (sym l) ∙ e) in
-      (text_read w b (20002 + (1 + (i + j) * 5940) + 33) p.edit.id T q ∙ ap name_slot f, subst short_text.Ok f T.ok);
-}
+  pub id_own : (b : List ℕ) (k : ℕ) → k ≡ 0 → b ≡ padded 33 (take (1 + get_or w (p + 33) 0) (drop (p + 33) w)) → ReadsId r j k w b
+  unfolding nth_id ids_of
+  id_own b k l q = record {
+    is = λ s h x g id e.
+        let T = own_text h in
+        let m : (entry_there h F).0.edit.id ≡ x.edit.id = ap (λ (y : Pending). y.edit.id) (same_entry h x g) in
+        let f : x.edit.id ≡ id = Some-injective x.edit.id id (ap (λ (n : ℕ). nth_id n (x.edit.id ∷ x.absorbed)) (sym l) ∙ e) in
+        (text_read w b (p + 33) (entry_there h F).0.edit.id T q ∙ ap name_slot (m ∙ f), subst short_text.Ok (m ∙ f) T.ok);
+  }
 
-pub id_more : (r : ResourceId) (w b : List ℕ) (i j k at : ℕ) → resource_id.Ok r → Reads (λ s. below r s.edits) w i → 0 < k
-    → at ≡ texts_end (k - 1) w (20002 + (1 + (i + j) * 5940) + 5676) → b ≡ padded 33 (take (1 + get_or w at 0) (drop at w)) → ReadsId r j k w b
-unfolding nth_id ids_of
-id_more r w b i j k at m I l a q = record {
-  is = λ s h p g id e.
-      let c : k ≡ suc (k - 1) = omega arith in
-      let f : nth_id (k - 1) p.absorbed ≡ some id = ap (λ (x : ℕ). nth_id x (p.edit.id ∷ p.absorbed)) (sym c) ∙ e in
-      let T : TextAt w at id = subst (λ (x : ℕ). TextAt w x id) (sym a) (more_text r w i j m I s h p g (k - 1) id f) in
-      (text_read w b at id T q, T.ok);
-}
+  pub id_more : (b : List ℕ) (k at : ℕ) → 0 < k → at ≡ texts_end (k - 1) w (p + 5676) → b ≡ padded 33 (take (1 + get_or w at 0) (drop at w)) → ReadsId r j k w b
+  unfolding nth_id ids_of
+  id_more b k at l a q = record {
+    is = λ s h x g id e.
+        let c : k ≡ suc (k - 1) = omega arith in
+        let f : nth_id (k - 1) x.absorbed ≡ Some id = ap (λ (n : ℕ). nth_id n (x.edit.id ∷ x.absorbed)) (sym c) ∙ e in
+        let m : nth_id (k - 1) (entry_there h F).0.absorbed ≡ Some id = ap (λ (y : Pending). nth_id (k - 1) y.absorbed) (same_entry h x g) ∙ f in
+        let T : TextAt w at id = subst (λ (x : ℕ). TextAt w x id) (sym a) (more_text h (k - 1) id m) in
+        (text_read w b at id T q, T.ok);
+  }
+
+pub id_none : {r : ResourceId} {w : List ℕ} {j : ℕ} (b : List ℕ) (k : ℕ) → FindsEntry r j w None → ReadsId r j k w b
+id_none b k F = record { is = λ s h x g id e. absurd (None-ne-Some x (sym (entry_not h F) ∙ g)) }
 
 -- a text by value
 pub text_copied : (src b z : List ℕ) (at n : ℕ) → n ≡ get_or src at 0 → z ≡ zeros 33 → get_or src at 0 ≤ 32 → at + (1 + get_or src at 0) ≤ length src

@@ -1,11 +1,11 @@
 -- What is done to the slots, as done to the state: the laws of `Slots` and of one queue in another's place. Assumes nothing.
+use Rattle.std.specs.Prelude.{Some}
+use Rattle.format.proofs.Options.{Some-injective}
 use Prim.Native.Nat.{ℕ, zero, suc, ◌+◌, ◌*◌, ◌≤◌, ◌<◌}
 use native.Mathlib.Nat.{mul-le-mul_right, suc-mul}
 use native.Mathlib.Omega.{arith}
 use mathlib.Core.Path.{◌≡◌, sym, ap, ap₂, ◌∙◌, subst}
 use mathlib.Core.List.{List, [], ◌∷◌, ◌++◌}
-use mathlib.Core.Option.{some, some-injective}
-use mathlib.Core.Bool.{true, false}
 use lib.ListN.{length, take, drop, get_or, set, length-append}
 use lib.Seq.{get_or-take, get_or-drop}
 use Rattle.format.specs.Format.{All}
@@ -27,6 +27,7 @@ use Rattle.waiting.specs.Queues.{put_in, below, queue, put_queue, all_entries, n
 use Rattle.waiting.specs.Slots.{Slots, HasSlots, ReadsSlots, tallied, inserted}
 use Rattle.waiting.proofs.Cuts.{Slot, Rows, Flat, Cut, cut, flat_count, put_fits, tally_own, tally_before}
 use Rattle.waiting.proofs.Lists as lists
+use Rattle.std.specs.declared.cmp.Ordering.TheVariants.{Less, Equal}
 
 -- ---- the slots of a buffer
 
@@ -110,10 +111,10 @@ spliced {s} {w} r q u w' h k a e S =
 
 -- ---- reading
 
-pub reads_own : (b w : List ℕ) (n : ℕ) (r : ResourceId) → text b ≡ r → ReadsSlots (tallied true b) w n → Reads (λ s. length (queue r s)) w n
+pub reads_own : (b w : List ℕ) (n : ℕ) (r : ResourceId) → text b ≡ r → ReadsSlots (tallied Equal b) w n → Reads (λ s. length (queue r s)) w n
 reads_own b w n r e R = record { is = λ s h. R.is (Flat s.edits) w (slots_of_lem h) ∙ tally_own b r s.edits e (cut_of r h) }
 
-pub reads_before : (b w : List ℕ) (n : ℕ) (r : ResourceId) → text b ≡ r → ReadsSlots (tallied false b) w n → Reads (λ s. below r s.edits) w n
+pub reads_before : (b w : List ℕ) (n : ℕ) (r : ResourceId) → text b ≡ r → ReadsSlots (tallied Less b) w n → Reads (λ s. below r s.edits) w n
 reads_before b w n r e R = record { is = λ s h. R.is (Flat s.edits) w (slots_of_lem h) ∙ tally_before b r s.edits e (cut_of r h) }
 
 pub reads_all : (w : List ℕ) (n : ℕ) → n ≡ get_or w 20002 0 → Reads all_entries w n
@@ -139,7 +140,7 @@ module _ {s : SyncState} {w : List ℕ} (r : ResourceId) (h : Keeps s w) where
       ap length C.is ∙ length-append C.pre (Rows r q ++ C.post) ∙ ap₂ ◌+◌ C.first (length-append (Rows r q) C.post ∙ ap (λ (n : ℕ). n + length C.post) (length-map (Slot r) q))
 
   -- the slot of entry j
-  pub row_of : (j : ℕ) (p : Pending) → nth j (queue r s) ≡ some p → j < length (queue r s) → get_or (Flat s.edits) (below r s.edits + j) [] ≡ Slot r p
+  pub row_of : (j : ℕ) (p : Pending) → nth j (queue r s) ≡ Some p → j < length (queue r s) → get_or (Flat s.edits) (below r s.edits + j) [] ≡ Slot r p
   row_of j p e l =
       let C = cut_of r h in
       let q : Queue = queue r s in
@@ -148,10 +149,10 @@ module _ {s : SyncState} {w : List ℕ} (r : ResourceId) (h : Keeps s w) where
 
 -- ---- what is done to a queue
 
-all_change : (P : Pending → Type 0) (g : Pending → Pending) (j : ℕ) (q : Queue) (p : Pending) → nth j q ≡ some p → P (g p) → All P q → All P (change_at j g q)
+all_change : (P : Pending → Type 0) (g : Pending → Pending) (j : ℕ) (q : Queue) (p : Pending) → nth j q ≡ Some p → P (g p) → All P q → All P (change_at j g q)
 unfolding nth change_at
 all_change P g j [] p e f a = tt
-all_change P g zero (x ∷ q) p e f a = (subst (λ (y : Pending). P (g y)) (sym (some-injective x p e)) f, a.1)
+all_change P g zero (x ∷ q) p e f a = (subst (λ (y : Pending). P (g y)) (sym (Some-injective x p e)) f, a.1)
 all_change P g (suc j) (x ∷ q) p e f a = (a.0, all_change P g j q p e f a.1)
 
 all_take : {A : Type 0} (P : A → Type 0) (j : ℕ) (q : List A) → All P q → All P (take j q)
@@ -179,7 +180,7 @@ module _ {s : SyncState} {w : List ℕ} (r : ResourceId) (k : resource_id.Ok r) 
       (ap₂ (λ (t : Table) (i : ℕ). take (i + j) t ++ drop (suc (i + j)) t) C.is (sym C.first) ∙ lists.out_of C.pre (Rows r q) C.post j (omega arith)
       ∙ ap (λ (t : Table). C.pre ++ (t ++ C.post)) (sym (lists.map_without (Slot r) j q))) S
 
-  pub changed : (j : ℕ) (g : Pending → Pending) (p : Pending) → nth j (queue r s) ≡ some p → j < length (queue r s) → PendingFits document01 r (g p)
+  pub changed : (j : ℕ) (g : Pending → Pending) (p : Pending) → nth j (queue r s) ≡ Some p → j < length (queue r s) → PendingFits document01 r (g p)
       → Slots (set (Flat s.edits) (below r s.edits + j) (Slot r (g p))) w w' → Keeps (put_queue r (change_at j g (queue r s)) s) w'
   changed j g p e l f S =
       let C = cut_of r h in

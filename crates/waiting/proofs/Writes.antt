@@ -174,13 +174,6 @@ opens i w w' y H h k e q =
     let g : length (drop i t) ≡ length t - i = length-drop i t in
     record { edits = E; has = has_next H E; count = omega arith }
 
--- a slot is at most the sixth
-pub slot_room : {w : List ℕ} (H : HasSlots w) (i : ℕ) → i < get_or w 20002 0 → (i < 6) × (length w ≡ 58543)
-slot_room H i h =
-    let c = H.slots.count in
-    let f = H.slots.few in
-    (omega arith, H.slots.long)
-
 pub slots_long : {w : List ℕ} (H : HasSlots w) → length w ≡ 58543
 slots_long H = H.slots.long
 

@@ -1,25 +1,20 @@
 -- Where a waiting entry stands in the work buffer, and what stands at its fields' places. Assumes nothing.
-use Rattle.std.specs.Prelude.{ℕ, ◌+◌, ◌≤◌, ◌≡◌, List, length, take, drop}
-use Rattle.std.proofs.Math.Option.{none, some}
+use Rattle.std.specs.Prelude.{ℕ, ◌+◌, ◌≤◌, ◌≡◌, List, take, drop, Option, Some, None}
 use Rattle.format.specs.Format.{option, list, stamp, bool}
-use Rattle.tables.specs.declared.Place.{Place}
-use Rattle.tables.specs.declared.Place.TheVariants.{Found, Missing}
 use Rattle.model.specs.Seam.{ResourceId}
 use Rattle.model.specs.Parts.{Conflict, Refused}
 use Rattle.model.specs.Edits.{Edit, Operation}
 use Rattle.model.specs.State.{Pending, SyncState}
 use Rattle.model.specs.Limits.{document01}
 use Rattle.model.specs.Formats.{short_text, operation_f, role_f, conflicts_f, refusals_f}
-use Rattle.tables.specs.Table.{flat}
-use Rattle.model.specs.Maps.{map, keys}
-use Rattle.state.specs.Layout.{padded, field, name_slot, pending_slot}
+use Rattle.state.specs.Layout.{field, pending_slot}
 use Rattle.state.specs.Fits.{PendingFits}
 use Rattle.state.specs.Contract.{Keeps}
 use Rattle.waiting.specs.Queues.{queue, nth}
 
 -- entry j of the queue of r stands at p: its slot's bytes, and its fields', each in its width
 pub record EntryAt (r : ResourceId) (j : ℕ) (w : List ℕ) (s : SyncState) (p : ℕ) (entry : Pending) : Type 0 where
-  pub got : nth j (queue r s) ≡ some entry
+  pub got : nth j (queue r s) ≡ Some entry
   pub fits : PendingFits document01 r entry
   pub room : p + 5940 ≤ 55643
   pub slot : take 5940 (drop p w) ≡ pending_slot document01 r entry
@@ -36,11 +31,11 @@ pub record SomeEntryAt (r : ResourceId) (j : ℕ) (w : List ℕ) (s : SyncState)
   pub entry : Pending
   pub is : EntryAt r j w s p entry
 
-unfoldable pub EntryIs : ResourceId → ℕ → List ℕ → SyncState → Place → Type 0
-EntryIs r j w s (Found p) = SomeEntryAt r j w s p
-EntryIs r j w s (Missing p) = nth j (queue r s) ≡ none
+unfoldable pub EntryIs : ResourceId → ℕ → List ℕ → SyncState → Option ℕ → Type 0
+EntryIs r j w s (Some p) = SomeEntryAt r j w s p
+EntryIs r j w s None = nth j (queue r s) ≡ None
 
-pub record FindsEntry (r : ResourceId) (j : ℕ) (w : List ℕ) (place : Place) : Type 0 where
+pub record FindsEntry (r : ResourceId) (j : ℕ) (w : List ℕ) (place : Option ℕ) : Type 0 where
   pub is : (s : SyncState) → Keeps s w → EntryIs r j w s place
 
 -- the bytes of a merge's reports
@@ -66,10 +61,6 @@ pub record EditBytes (e : Edit) (r : ResourceId) (id operation role expiry : Lis
 pub record IsEdit (r : ResourceId) (id operation role expiry : List ℕ) : Type 0 where
   pub edit : Edit
   pub is : EditBytes edit r id operation role expiry
-
--- the resources that have a queue, in order, as names of 33 bytes
-pub record ListsResources (w : List ℕ) (count : ℕ) (bytes : List ℕ) : Type 0 where
-  pub is : (s : SyncState) → Keeps s w → (count ≡ length s.edits) × (bytes ≡ padded 198 (flat (map name_slot (keys s.edits))))
 
 -- the bytes of what an entry takes from an edit that is folded into it
 pub record FoldBytes (o : Operation) (e : Edit) (operation expiry id : List ℕ) : Type 0 where

@@ -1,6 +1,5 @@
 -- The queues of a state: the model's `queue_of`, `set_queue` and `entries` without the machine around them. Assumes nothing.
-use Rattle.std.specs.Prelude.{ℕ, zero, suc, ◌+◌, List, [], ◌∷◌, ◌++◌, Bool, true, leb, length, take, drop}
-use Rattle.std.proofs.Math.Option.{Option, none, some}
+use Rattle.std.specs.Prelude.{ℕ, zero, suc, ◌+◌, List, [], ◌∷◌, ◌++◌, Bool, true, leb, ltb, if◌then◌else◌, length, take, drop, Option, Some, None}
 use Rattle.model.specs.Seam.{ResourceId}
 use Rattle.model.specs.Parts.{Conflict, Refused}
 use Rattle.model.specs.State.{Map, Pending, Queue, SyncState}
@@ -36,12 +35,16 @@ put_queue r q s = with_edits (put_in r q s.edits) s
 abbrev pub all_entries : SyncState → ℕ
 all_entries s = sum (map length (values s.edits))
 
+-- the number of its j-th entry among those of all queues, if it has so many
+abbrev pub slot_number : ResourceId → ℕ → SyncState → Option ℕ
+slot_number r j s = if ltb j (length (queue r s)) then Some (below r s.edits + j) else None
+
 -- ---- one queue
 
 -- the j-th entry, counted from 0
 unfoldable pub nth : ℕ → Queue → Option Pending
-nth j [] = none
-nth zero (p ∷ q) = some p
+nth j [] = None
+nth zero (p ∷ q) = Some p
 nth (suc j) (p ∷ q) = nth j q
 
 -- without its j-th entry

@@ -1,8 +1,8 @@
 -- The table of the waiting entries in the work buffer: 35,641 bytes at 20,002, slots of 5,940. Assumes nothing.
-use Rattle.std.specs.Prelude.{ℕ, ◌+◌, ◌≤◌, ◌≡◌, List, [], ◌∷◌, ◌++◌, Bool, true, false, length, take, drop, get_or, set}
+use Rattle.std.specs.Prelude.{ℕ, ◌+◌, ◌≤◌, ◌≡◌, List, [], ◌∷◌, ◌++◌, Bool, ◌==◌, count_by, length, take, drop, get_or, set}
 use Rattle.spans.specs.Compare.{order}
-use Rattle.spans.specs.declared.Order.{Order}
-use Rattle.spans.specs.declared.Order.TheVariants.{Less, Equal, Greater}
+use Rattle.std.specs.Ordering.{ordering_index}
+use Rattle.std.specs.declared.cmp.Ordering.{Ordering}
 use Rattle.tables.specs.Table.{Table, Sized, enc_table, text}
 use Rattle.spans.specs.Bytes.{zeros}
 use Rattle.lent.specs.Lent.{placed}
@@ -34,18 +34,12 @@ pub record EditsSlots (f : Table → Table) (w w' : List ℕ) : Type 0 where
 
 -- ---- counting slots by their keys
 
--- those whose key equals the one asked for, or those whose key is less
-abbrev pub counts : Bool → Order → ℕ
-counts true Less = 0
-counts true Equal = 1
-counts true Greater = 0
-counts false Less = 1
-counts false Equal = 0
-counts false Greater = 0
+abbrev pub is_rank : Ordering → Ordering → Bool
+is_rank rank o = ordering_index o == ordering_index rank
 
-unfoldable pub tallied : Bool → List ℕ → Table → ℕ
-tallied equal key [] = 0
-tallied equal key (s ∷ t) = counts equal (order (text s) (text key)) + tallied equal key t
+-- those whose key has this rank beside the one asked for
+abbrev pub tallied : Ordering → List ℕ → Table → ℕ
+tallied rank key t = count_by (λ s. is_rank rank (order (text s) (text key))) t
 
 -- ---- slots changed
 

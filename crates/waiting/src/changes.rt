@@ -9,11 +9,9 @@ ghost use Rattle.waiting.specs.Queues.{queue, put_queue, all_entries, without, p
 ghost use Rattle.waiting.specs.Slots.{HasSlots, EditsSlots, new_fields};
 ghost use Rattle.waiting.specs.Entries.{PlanBytes, EditBytes, IsEdit};
 
-use crate::finding::{entries, entries_before, waiting_count};
+use crate::finding::{entries, entries_before, slot_number, waiting_count};
 use crate::slots::{
-    COLLIDED, CONFLICTS, CONFLICTS_WIDTH, EDITS, EDITS_SIZE, EDITS_SLOT, EXPIRY, EXPIRY_WIDTH, ID,
-    NAME_WIDTH, OPERATION, OPERATION_WIDTH, REFUSED, REFUSED_WIDTH, ROLE, ROLE_WIDTH,
-    WAITING_LIMIT, open_entry, write_field,
+    COLLIDED, CONFLICTS, EDITS, EXPIRY, ID, NAME, OPERATION, REFUSED, ROLE, open_entry, write_field,
 };
 use names::Name;
 
@@ -23,12 +21,9 @@ pub fn remove_entry(work: &mut [u8], name: Name, j: usize)
     requires named { Named name.bytes }
     ensures { Edits (λ s. put_queue (name_of name.bytes) (without j (queue (name_of name.bytes) s)) s) work.old work.new }
 {
-    let n = waiting_count(work, name);
-    if n <= j {
-        return;
+    if let Some(i) = slot_number(work, name, j) {
+        EDITS.take_out(work, i);
     }
-    let i = entries_before(work, name) + j;
-    lent::take_out_in(work, EDITS, EDITS_SIZE, EDITS_SLOT, i);
 }
 
 // The head of a queue has collided.
@@ -37,13 +32,9 @@ pub fn set_collided(work: &mut [u8], name: Name)
     requires named { Named name.bytes }
     ensures { Edits (λ s. put_queue (name_of name.bytes) (change_front as_collided (queue (name_of name.bytes) s)) s) work.old work.new }
 {
-    let n = waiting_count(work, name);
-    if n == 0 {
-        return;
+    if let Some(i) = slot_number(work, name, 0) {
+        write_field(work, i, COLLIDED, &[1]);
     }
-    let i = entries_before(work, name);
-    let one = [1u8; 1];
-    write_field(work, i, COLLIDED, 1, &one);
 }
 
 // The reports of a merge into the head of a queue.
@@ -52,13 +43,10 @@ pub fn set_plan(work: &mut [u8], name: Name, conflicts: &[u8], refused: &[u8])
     requires named { (Named name.bytes) × (length conflicts.now ≤ 3072) × (length refused.now ≤ 1024) }
     ensures { (cs : List Conflict) (rs : List Refused) → PlanBytes cs rs conflicts.now refused.now → Edits (λ s. put_queue (name_of name.bytes) (change_front (planned cs rs) (queue (name_of name.bytes) s)) s) work.old work.new }
 {
-    let n = waiting_count(work, name);
-    if n == 0 {
-        return;
+    if let Some(i) = slot_number(work, name, 0) {
+        write_field(work, i, CONFLICTS, conflicts);
+        write_field(work, i, REFUSED, refused);
     }
-    let i = entries_before(work, name);
-    write_field(work, i, CONFLICTS, CONFLICTS_WIDTH, conflicts);
-    write_field(work, i, REFUSED, REFUSED_WIDTH, refused);
 }
 
 // The head of a queue without a merge's reports.
@@ -67,8 +55,7 @@ pub fn clear_plan(work: &mut [u8], name: Name)
     requires named { Named name.bytes }
     ensures { Edits (λ s. put_queue (name_of name.bytes) (change_front without_plan (queue (name_of name.bytes) s)) s) work.old work.new }
 {
-    let none = [0u8; 1];
-    set_plan(work, name, &none, &none);
+    set_plan(work, name, &[0], &[0]);
 }
 
 // The fields of a new entry into slot i.
@@ -85,12 +72,11 @@ fn fill_entry(
     requires i_bound { (i < get_or work.old 20002 0) × (length id.now ≤ 33) × (length operation.now ≤ 1469) × (length role.now ≤ 34) × (length expiry.now ≤ 9) × (length name.bytes ≤ 33) }
     ensures { EditsSlots (λ t. set t i (new_fields name.bytes id.now operation.now role.now expiry.now (get_or t i []))) work.old work.new }
 {
-    let key = name.bytes;
-    write_field(work, i, 0, NAME_WIDTH, &key);
-    write_field(work, i, ID, NAME_WIDTH, id);
-    write_field(work, i, OPERATION, OPERATION_WIDTH, operation);
-    write_field(work, i, ROLE, ROLE_WIDTH, role);
-    write_field(work, i, EXPIRY, EXPIRY_WIDTH, expiry);
+    write_field(work, i, NAME, &name.bytes);
+    write_field(work, i, ID, id);
+    write_field(work, i, OPERATION, operation);
+    write_field(work, i, ROLE, role);
+    write_field(work, i, EXPIRY, expiry);
 }
 
 // An edit behind the others of its resource; false if that takes one entry more than the limit.
@@ -106,8 +92,7 @@ pub fn append(
     requires named { (Named name.bytes) × (IsEdit (name_of name.bytes) id.now operation.now role.now expiry.now) }
     ensures { (e : Edit) → EditBytes e (name_of name.bytes) id.now operation.now role.now expiry.now → Tries (λ s. leb (all_entries (put_queue (name_of name.bytes) (queue (name_of name.bytes) s ++ (new_pending e ∷ [])) s)) 6) (λ s. put_queue (name_of name.bytes) (queue (name_of name.bytes) s ++ (new_pending e ∷ [])) s) work.old result work.new }
 {
-    let n = entries(work);
-    if WAITING_LIMIT <= n {
+    if EDITS.limit <= entries(work) {
         return false;
     }
     let i = entries_before(work, name) + waiting_count(work, name);

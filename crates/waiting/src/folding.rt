@@ -11,30 +11,29 @@ ghost use Rattle.waiting.specs.Texts.{text_end, texts_end};
 
 use crate::finding::{entries_before, waiting_count};
 use crate::slots::{
-    ABSORBED, ABSORBED_IDS, ABSORBED_LIMIT, EDITS, EDITS_SLOT, EXPIRY, EXPIRY_WIDTH, OPERATION,
-    OPERATION_WIDTH, write_field,
+    ABSORBED, ABSORBED_IDS, ABSORBED_LIMIT, EXPIRY, Field, OPERATION, slot_at, write_field,
 };
 use names::Name;
 
 // Where the text at `at` ends.
+#[tactic(auto, using(crate::proofs::Texts::text_past, crate::proofs::Texts::text_more))]
 fn text_end(src: &[u8], at: usize) -> usize
     ensures { result ≡ text_end src.now at }
 {
-    if src.len() <= at {
-        return at;
+    if at < src.len() {
+        at + (1 + usize::from(src[at]))
+    } else {
+        at
     }
-    at + (1 + src[at] as usize)
 }
 
 // Where the last of n texts ends, the first of which stands at `start`.
 pub fn texts_end(src: &[u8], start: usize, n: usize) -> usize
     ensures { result ≡ texts_end n src.now start }
 {
-    let mut left = n;
     let mut at = start;
-    while 0 < left {
+    for _ in 0..n {
         at = text_end(src, at);
-        left -= 1;
     }
     at
 }
@@ -53,12 +52,14 @@ fn absorb_into(
     requires i_bound { (i < get_or work.old 20002 0) × (o + length id.now ≤ 5940) × (length operation.now ≤ 1469) × (length expiry.now ≤ 9) }
     ensures { EditsSlots (λ t. set t i (more_fields o count operation.now expiry.now id.now (get_or t i []))) work.old work.new }
 {
-    let width = id.len();
-    let counted = [count; 1];
-    write_field(work, i, OPERATION, OPERATION_WIDTH, operation);
-    write_field(work, i, EXPIRY, EXPIRY_WIDTH, expiry);
-    write_field(work, i, o, width, id);
-    write_field(work, i, ABSORBED, 1, &counted);
+    let place = Field {
+        at: o,
+        width: id.len(),
+    };
+    write_field(work, i, OPERATION, operation);
+    write_field(work, i, EXPIRY, expiry);
+    write_field(work, i, place, id);
+    write_field(work, i, ABSORBED, &[count]);
 }
 
 // Folds an edit into the newest entry of a queue; false if that entry has absorbed as many as it may.
@@ -72,12 +73,12 @@ pub fn fold(work: &mut [u8], name: Name, operation: &[u8], expiry: &[u8], id: &[
         return true;
     }
     let i = entries_before(work, name) + (n - 1);
-    let p = EDITS + (1 + i * EDITS_SLOT);
-    let count = work[p + ABSORBED];
+    let p = slot_at(i);
+    let count = work[p + ABSORBED.at];
     if ABSORBED_LIMIT <= count {
         return false;
     }
-    let end = texts_end(work, p + ABSORBED_IDS, count as usize);
+    let end = texts_end(work, p + ABSORBED_IDS, usize::from(count));
     absorb_into(work, i, end - p, count + 1, operation, expiry, id);
     true
 }

@@ -10,7 +10,9 @@ mod readers;
 mod slots;
 
 pub use changes::{append, clear_plan, remove_entry, set_collided, set_plan};
-pub use finding::{ResourceNames, entries, find_entry, resource_name, resources, waiting_count};
+pub use finding::{entries, find_entry, resources, waiting_count};
 pub use folding::fold;
 pub use moving::move_entry;
-pub use readers::{entry_id, expiry, ids_count, is_attendee, is_collided, is_due, operation_case};
+pub use readers::{
+    OperationCase, entry_id, expiry, ids_count, is_attendee, is_collided, is_due, operation_case,
+};

@@ -11,17 +11,23 @@ ghost use Rattle.state.specs.Values.{name_of, Named};
 ghost use Rattle.waiting.specs.Queues.{renamed, joined, moved};
 
 use crate::changes::remove_entry;
-use crate::finding::{entries_before, waiting_count};
-use crate::slots::{EDITS, EDITS_SLOT, NAME_WIDTH, open_entry, write_field};
+use crate::finding::{entries_before, find_entry, waiting_count};
+use crate::slots::{EDITS, Field, NAME, open_entry, write_field};
 use names::Name;
 
+const WHOLE: Field = Field {
+    at: 0,
+    width: EDITS.stride,
+};
+
 // The slot at `at`.
-fn copy_slot(slot: &mut [u8], work: &[u8], at: usize)
-    requires { (length slot.old ≡ 5940) × (at + 5940 ≤ length work.now) }
-    ensures { slot.new ≡ take 5940 (drop at work.now) }
+fn copy_slot(work: &[u8], at: usize) -> [u8; 5940]
+    requires { at + 5940 ≤ length work.now }
+    ensures { result ≡ take 5940 (drop at work.now) }
 {
-    let end = at + EDITS_SLOT;
-    spans::copy_into(slot, &work[at..end]);
+    let mut slot = [0; 5940];
+    slot.copy_from_slice(&work[at..at + EDITS.stride]);
+    slot
 }
 
 // A slot behind those of another queue, under that one's name.
@@ -32,9 +38,8 @@ fn join_entry(work: &mut [u8], name: Name, slot: &[u8])
 {
     let i = entries_before(work, name) + waiting_count(work, name);
     open_entry(work, i);
-    write_field(work, i, 0, EDITS_SLOT, slot);
-    let key = name.bytes;
-    write_field(work, i, 0, NAME_WIDTH, &key);
+    write_field(work, i, WHOLE, slot);
+    write_field(work, i, NAME, &name.bytes);
 }
 
 // The j-th entry of one queue, if it has so many, leaves it and joins another.
@@ -43,13 +48,9 @@ pub fn move_entry(work: &mut [u8], from: Name, j: usize, to: Name)
     requires named { (Named from.bytes) × (Named to.bytes) }
     ensures { Edits (moved (name_of from.bytes) j (name_of to.bytes)) work.old work.new }
 {
-    let n = waiting_count(work, from);
-    if n <= j {
-        return;
+    if let Some(at) = find_entry(work, from, j) {
+        let slot = copy_slot(work, at);
+        remove_entry(work, from, j);
+        join_entry(work, to, &slot);
     }
-    let i = entries_before(work, from) + j;
-    let mut slot = [0u8; 5940];
-    copy_slot(&mut slot, work, EDITS + (1 + i * EDITS_SLOT));
-    remove_entry(work, from, j);
-    join_entry(work, to, &slot);
 }

@@ -7,13 +7,15 @@ use mathlib.Core.List.{List, [], ◌∷◌, ◌++◌, append-nil}
 use mathlib.Core.Bool.{Bool, true, false}
 use lib.ListN.{length, get_or, length-append}
 use lib.Dec.{T, compare_is_eq}
-use Rattle.format.specs.Format.{Format, Lawful, All, ◌⊗◌, option, list, stamp, bool, concat_map}
+use Rattle.format.specs.Format.{Got, Format, Lawful, All, ◌⊗◌, option, list, stamp, bool, concat_map}
 use Rattle.format.specs.Format.{padded as in-width}
 use Rattle.format.proofs.FormatLaws.{pair_law, option_law, stamp_law, bool_law, list_law, padded_law}
 use Rattle.format.proofs.SizeLaws.{Within, pair_within, list_within, bool_within}
+use Rattle.std.specs.Prelude.{Option, Some, None, is_some}
+use Rattle.std.specs.Ordering.{is_le}
 use Rattle.spans.specs.Bytes.{zeros, both}
 use Rattle.spans.specs.Compare.{order}
-use Rattle.spans.specs.declared.Order.TheVariants.{Greater}
+use Rattle.std.specs.declared.cmp.Ordering.TheVariants.{Greater}
 use Rattle.tables.specs.Table.{Table, flat, Sized, enc_table, slots_of, Holds, text}
 use Rattle.tables.proofs.Laws as tables
 use Rattle.model.specs.Seam.{ResourceId}
@@ -32,11 +34,10 @@ use Rattle.state.proofs.Padded.{length_padded, text_name}
 use Rattle.state.proofs.Orders.{flipped, name_order}
 use Rattle.state.proofs.Rows.{sized_rows}
 use Rattle.state.proofs.Regions.{bool_ok, pending_long, Entries, entries_of, entries, put_first, queues, entry_slot, EntryFits, edit_rows, entries_fit}
-use Rattle.frame.specs.Read.{start, skips}
-use Rattle.frame.specs.declared.Cursor.{Cursor}
-use Rattle.frame.proofs.Steps.{skips_pair, got_some}
-use Rattle.frame.proofs.Spans.{skips_written}
-use Rattle.wellformed.specs.Entries.{Entry, entry_f, entries_f, not_greater, ordered_from, ordered, QueuesIn}
+use Rattle.reader.specs.Left.{left, after, past}
+use Rattle.reader.specs.declared.Reader.{Reader}
+use Rattle.strides.specs.Walk.{neighbours_from, neighbours}
+use Rattle.wellformed.specs.Entries.{Entry, entry_f, entries_f, in_order, ordered, QueuesIn}
 
 -- ---- an entry is read field by field
 
@@ -49,27 +50,6 @@ entry_f_law =
 entries_f_law : Lawful entries_f
 unfolding entries_f
 entries_f_law = padded_law (list_law entry_f_law 6) 35641
-
-module _ (s : List ℕ) (p : Cursor) where
-  entry_chain : skips entry_f s p ≡ skips (in-width 265 (list 8 short_text)) s (skips (in-width 1 bool) s (skips (in-width 1024 refusals_f) s (skips (in-width 3072 conflicts_f) s (skips (in-width 9 (option stamp)) s
-      (skips (in-width 34 role_f) s (skips (in-width 1469 operation_f) s (skips (in-width 33 short_text) s (skips (in-width 33 resource_id) s p))))))))
-  unfolding entry_f
-  entry_chain =
-      skips_pair (padded_law resource_id_law 33) s _ p ∙ (skips_pair (padded_law short_text_law 33) s _ _ ∙ (skips_pair (padded_law operation_f_law 1469) s _ _ ∙ (skips_pair (padded_law role_f_law 34) s _ _
-      ∙ (skips_pair (padded_law (option_law stamp_law) 9) s _ _ ∙ (skips_pair (padded_law conflicts_f_law 3072) s _ _ ∙ (skips_pair (padded_law refusals_f_law 1024) s _ _ ∙ skips_pair (padded_law bool_law 1) s _ _))))))
-
-  pub entry_by : {q₁ q₂ q₃ q₄ q₅ q₆ q₇ q₈ q₉ : Cursor}
-      → q₁ ≡ skips (in-width 33 resource_id) s p
-      → q₂ ≡ skips (in-width 33 short_text) s q₁
-      → q₃ ≡ skips (in-width 1469 operation_f) s q₂
-      → q₄ ≡ skips (in-width 34 role_f) s q₃
-      → q₅ ≡ skips (in-width 9 (option stamp)) s q₄
-      → q₆ ≡ skips (in-width 3072 conflicts_f) s q₅
-      → q₇ ≡ skips (in-width 1024 refusals_f) s q₆
-      → q₈ ≡ skips (in-width 1 bool) s q₇
-      → q₉ ≡ skips (in-width 265 (list 8 short_text)) s q₈
-      → q₉ ≡ skips entry_f s p
-  entry_by e₁ e₂ e₃ e₄ e₅ e₆ e₇ e₈ e₉ = cc entry_chain
 
 -- ---- the fields of an entry, and the entry of its fields
 
@@ -191,14 +171,36 @@ entry_within =
     pair_within (in_width_within 33 resource_id) (pair_within (in_width_within 33 short_text) (pair_within (in_width_within 1469 operation_f) (pair_within (in_width_within 34 role_f) (pair_within (in_width_within 9 (option stamp))
     (pair_within (in_width_within 3072 conflicts_f) (pair_within (in_width_within 1024 refusals_f) (pair_within (in_width_within 1 bool) (in_width_within 265 (list 8 short_text)))))))))
 
-pub slots_of_lem : (b : List ℕ) (end : Cursor) → length b ≡ 35641 → end ≡ skips entries_f b start → end.ok ≡ true → Slots b
+left_some : (o : Option Reader) → is_some (left o) ≡ is_some o
+left_some None = refl
+left_some (Some r) = refl
+
+-- whether the walk past the region came to its end
+pub walked : (s : List ℕ) (o : Option Reader) {r : Bool} → left o ≡ after entries_f s → r ≡ is_some o → r ≡ is_some (after entries_f s)
+walked s o e h = h ∙ sym (left_some o) ∙ ap is_some e
+
+-- what was read, where something is left behind it
+record Read {A : Type 0} (f : Format A) (s : List ℕ) : Type 0 where
+  value : A
+  rest : List ℕ
+  is : f.dec s ≡ Some (value, rest)
+
+read_of : {A : Type 0} (f : Format A) (s : List ℕ) → is_some (after f s) ≡ true → Read f s
+unfolding after
+read_of {A} f s = go (f.dec s) refl
+  where
+    go : (x : Got A) → f.dec s ≡ x → is_some (past x) ≡ true → Read f s
+    go None q h = absurd (tables.false_true h)
+    go (Some r) q h = record { value = r.0; rest = r.1; is = q }
+
+pub slots_yes : (b : List ℕ) → length b ≡ 35641 → is_some (after entries_f b) ≡ true → Slots b
 unfolding entries_f in-width padded list
-slots_of_lem b end h e k =
-    let g = got_some entries_f b start end e k in
-    let r = entries_f_law.reads b g.0 g.1 in
-    let vs : List Entry = g.0.0 in
+slots_yes b h k =
+    let g = read_of entries_f b k in
+    let r = entries_f_law.reads b (g.value, g.rest) g.is in
+    let vs : List Entry = g.value in
     let n : length (entries_f.enc vs) ≡ 35641 = length_padded 35641 ((list 6 entry_f).enc vs) r.1.1 in
-    let w : b ≡ entries_f.enc vs = no_more (entries_f.enc vs) b g.0.1 r.0 (n ∙ sym h) in
+    let w : b ≡ entries_f.enc vs = no_more (entries_f.enc vs) b g.rest r.0 (n ∙ sym h) in
     record {
       l = map entry_of vs;
       small = subst (λ (x : ℕ). x ≤ 6) (sym (length-map entry_of vs)) r.1.0.0;
@@ -206,17 +208,15 @@ slots_of_lem b end h e k =
       bytes = w ∙ table_of entry_f 6 35641 vs ∙ ap (enc_table 35641) (rows_of vs);
     }
 
-pub slots_read : (b : List ℕ) (end : Cursor) → Slots b → end ≡ skips entries_f b start → end.ok ≡ true
-unfolding entries_f in-width padded list
-slots_read b end S e =
+pub slots_no : (b : List ℕ) → Slots b → is_some (after entries_f b) ≡ true
+unfolding after entries_f in-width padded list
+slots_no b S =
     let vs : List Entry = map fields_of S.l in
     let w : b ≡ entries_f.enc vs = S.bytes ∙ ap (enc_table 35641) (sym (rows_back S.l)) ∙ sym (table_of entry_f 6 35641 vs) in
-    let t : b ≡ [] ++ (entries_f.enc vs ++ []) = w ∙ sym (append-nil (entries_f.enc vs)) in
+    let t : b ≡ entries_f.enc vs ++ [] = w ∙ sym (append-nil (entries_f.enc vs)) in
     let small : length vs ≤ 6 = subst (λ (x : ℕ). x ≤ 6) (sym (length-map fields_of S.l)) S.small in
     let few : length ((list 6 entry_f).enc vs) ≤ 35641 = (list_within 6 entry_within).bytes vs (small, all_back S.l S.each) in
-    let q : skips entries_f b start ≡ record { at = 0 + length (entries_f.enc vs); ok = true } = subst (λ (x : List ℕ). skips entries_f x start ≡ record { at = 0 + length (entries_f.enc vs); ok = true }) (sym t)
-    (skips_written entries_f_law [] vs [] ((small, all_back S.l S.each), few)) in
-    ap (λ (x : Cursor). x.ok) (e ∙ q)
+    ap (λ (x : Got (List Entry)). is_some (past x)) (ap entries_f.dec t ∙ entries_f_law.writes vs ((small, all_back S.l S.each), few) [])
 
 slots_are : (b : List ℕ) (S : Slots b) → slots_of 5940 b ≡ map (entry_slot document01) S.l
 slots_are b S = ap (slots_of 5940) S.bytes ∙ tables.slots_enc 5940 35641 (map (entry_slot document01) S.l) (sized_entries S.l S.each)
@@ -237,10 +237,13 @@ text_is x = text_name x.0 _
 
 -- one resource does not come after another
 abbrev before : ResourceId → ResourceId → Bool
-before a b = not_greater (order a b)
+before a b = is_le (order a b)
+
+abbrev ordered_from : List ℕ → Table → Bool
+ordered_from = neighbours_from in_order
 
 from_next : (x y : ResourceId × Pending) (l : Entries) → ordered_from (entry_slot document01 x) (map (entry_slot document01) (y ∷ l)) ≡ both (before x.0 y.0) (ordered_from (entry_slot document01 y) (map (entry_slot document01) l))
-unfolding ordered_from map
+unfolding neighbours_from map
 from_next x y l = rw (text_is x, text_is y)
 
 put_entries : (x : ResourceId × Pending) (m : Map ResourceId Queue) → entries (put_first x m) ≡ x ∷ entries m
@@ -296,7 +299,7 @@ strictly a b h s = go (by_name a b) refl
     go Ordering.gt e =
         let t : by_name b a ≡ Ordering.lt = by_name_turned a b ∙ ap turned e in
         let o : order a b ≡ Greater = name_order a b ∙ ap flipped t in
-        absurd (tables.false_true (sym (ap not_greater o) ∙ h))
+        absurd (tables.false_true (sym (ap is_le o) ∙ h))
 
 put_rises : (x : ResourceId × Pending) (r : ResourceId) (q : Queue) (m : Map ResourceId Queue) → before x.0 r ≡ true → T (rising by_name (keys ((r, q) ∷ m))) → T (rising by_name (keys (put_first x ((r, q) ∷ m))))
 unfolding when◌then◌else◌ keys map rising by
@@ -315,11 +318,11 @@ unfolding rising keys map
 rise_one r q = tt
 
 ordered_none : ordered (map (entry_slot document01) []) ≡ true
-unfolding ordered map
+unfolding neighbours map
 ordered_none = refl
 
 ordered_from_lem : (x : ResourceId × Pending) (l : Entries) → ordered (map (entry_slot document01) (x ∷ l)) ≡ ordered_from (entry_slot document01 x) (map (entry_slot document01) l)
-unfolding ordered map
+unfolding neighbours map
 ordered_from_lem x l = refl
 
 rising_keys : (r : ResourceId) (q : Queue) (m : Map ResourceId Queue) → T (rising by_name (keys ((r, q) ∷ m))) → T (rising by_name (r ∷ keys m))
@@ -366,10 +369,10 @@ slots_in b E = record {
 }
 
 before_self : (r : ResourceId) → before r r ≡ true
-before_self r = ap not_greater (name_order r r ∙ ap flipped (by_name_self r))
+before_self r = ap is_le (name_order r r ∙ ap flipped (by_name_self r))
 
 before_less : (a b : ResourceId) → by_name a b ≡ Ordering.lt → before a b ≡ true
-before_less a b e = ap not_greater (name_order a b ∙ ap flipped (by_name_turned a b ∙ ap turned e))
+before_less a b e = ap is_le (name_order a b ∙ ap flipped (by_name_turned a b ∙ ap turned e))
 
 both_of : (a b : Bool) → a ≡ true → b ≡ true → both a b ≡ true
 both_of a b p q = rw (p, q)
@@ -382,7 +385,7 @@ queue_ordered r p (p' ∷ q) l f =
     from_next (r, p) (r, p') (entries_of r q ++ l) ∙ both_of _ _ (before_self r) (queue_ordered r p' q l f)
 
 edits_ordered : (r : ResourceId) (p : Pending) (m : Map ResourceId Queue) → All (QueueFits document01) m → T (rising by_name (r ∷ keys m)) → ordered_from (entry_slot document01 (r, p)) (map (entry_slot document01) (entries m)) ≡ true
-unfolding keys map rising ordered_from
+unfolding keys map rising neighbours_from
 edits_ordered r p [] a t = refl
 edits_ordered r p ((k, []) ∷ m) a t = absurd (let h = a.0.some in omega arith)
 edits_ordered r p ((k, p' ∷ q) ∷ m) a t =

@@ -1,9 +1,9 @@
 -- A state is well-formed exactly where it fits its regions and keeps the rules across its tables. Assumes nothing.
+use Rattle.std.specs.Prelude.{Option, Some, None}
 use Prim.Native.Nat.{ℕ, ◌+◌, ◌≤◌, ◌<◌}
 use native.Mathlib.Omega.{arith}
 use mathlib.Core.Path.{◌≡◌, refl, sym, ap₂, ◌∙◌, subst}
 use mathlib.Core.List.{[], ◌∷◌}
-use mathlib.Core.Option.{Option, none, some}
 use mathlib.Core.Bool.{not}
 use lib.ListN.{length, length-append}
 use lib.Dec.{T, leb, le→leb}
@@ -78,14 +78,14 @@ module _ (L : Limits) where
 
   pass_fits : (o : Option Pass) → model.PassIfAny L o → PassFits L (pass_of o)
   unfolding pass_of no_pass rising keys map option via enum ◌∣◌ nothing list_from_f
-  pass_fits none h = record {
+  pass_fits None h = record {
     from = tt;
     staged = record { small = omega arith; each = tt; rises = tt };
     seen = record { small = omega arith; each = tt; rises = tt };
     observed = record { small = omega arith; each = tt; rises = tt };
     done = tt;
   }
-  pass_fits (some p) h = record {
+  pass_fits (Some p) h = record {
     from = h.from;
     staged = record { small = h.staged.small; each = h.staged.each; rises = h.staged.rises };
     seen = record { small = h.seen.small; each = h.seen.each; rises = h.seen.rises };
@@ -171,14 +171,14 @@ module _ (L : Limits) where
 
   pass_ok : (o : Option Pass) → PassFits L (pass_of o) → (option (pass_f L)).Ok o
   unfolding option pass_f via enum ◌∣◌ ◌⊗◌ list nothing pass_of
-  pass_ok none h = tt
-  pass_ok (some p) h =
+  pass_ok None h = tt
+  pass_ok (Some p) h =
       (bool_ok p.full, (h.from, ((h.staged.small, h.staged.each), ((h.seen.small, h.seen.each), ((h.observed.small, h.observed.each), h.done)))))
 
   pass_ruled : (o : Option Pass) → PassFits L (pass_of o) → T (if_any pass_rises o)
   unfolding if_any pass_rises pass_of
-  pass_ruled none h = tt
-  pass_ruled (some p) h =
+  pass_ruled None h = tt
+  pass_ruled (Some p) h =
       and_both (rising by_name (keys p.staged)) _ h.staged.rises (and_both (rising by_name p.seen) (rising by_name p.observed) h.seen.rises h.observed.rises)
 
   pub well_of : (s : SyncState) → Fits L s → Across s → WellFormed L s

@@ -1,17 +1,19 @@
 -- What the tests of slots across tables say of a state: its numbers in flight, and the requests for its queues. Assumes nothing.
+use Rattle.std.specs.Prelude.{Some, None, is_ok, cond, ◌&&◌, count_by, filter as pick}
+use Rattle.std.specs.List.{list_all}
+use Rattle.std.proofs.lemmas.List.Sums.{length-filter}
 use Prim.Native.Nat.{ℕ, suc, ◌+◌, ◌-◌, Ordering}
 use native.Mathlib.Omega.{arith}
 use mathlib.Core.Path.{◌≡◌, refl, sym, ap, ap₂, ◌∙◌}
 use mathlib.Core.List.{List, [], ◌∷◌, ◌++◌}
-use mathlib.Core.Option.{none, some}
 use mathlib.Core.Bool.{Bool, true, false, ◌||◌}
 use lib.ListN.{length, take, drop, get_or}
 use lib.Seq.{take_all, drop-drop, get_or-append-add}
 use lib.Dec.{ltb, eqb, compare_is_eq}
 use Rattle.format.specs.Format.{All, via, enum, ◌∣◌, nothing, text as text-format, number}
-use Rattle.spans.specs.Bytes.{zeros, both}
+use Rattle.spans.specs.Bytes.{zeros}
 use Rattle.spans.specs.Compare.{order}
-use Rattle.spans.specs.declared.Order.TheVariants.{Less}
+use Rattle.std.specs.declared.cmp.Ordering.TheVariants.{Less}
 use Rattle.numbers.specs.Big.{from_be}
 use Rattle.tables.specs.Table.{Table, text, place, at_place, is_equal}
 use Rattle.tables.proofs.Laws as tables
@@ -30,8 +32,7 @@ use Rattle.state.specs.Fits.{QueueFits}
 use Rattle.state.proofs.Padded.{length_name, text_name, text_name_only, length_number}
 use Rattle.state.proofs.Orders.{flipped, name_order, from_digits}
 use Rattle.state.proofs.Ops.{flight_number, flight_value}
-use Rattle.regions.specs.Tests.{every_slot}
-use Rattle.wellformed.specs.Tests.{is_below, is_edit, key_in, is_found, is_queued, is_for, one, count_slots, is_asked}
+use Rattle.wellformed.specs.Tests.{is_below, is_edit, key_in, is_queued, is_for, is_asked}
 
 -- ---- a waiting entry's slot
 
@@ -84,22 +85,22 @@ edit_three e t p = rw (kind_of e 3 t p)
 -- ---- a slot against the queues
 
 -- past the rest of a lesser queue
-past : (key : List ℕ) (r : ResourceId) (q : Queue) (t : Table) (b : Bool) (at : ℕ) → order r (text key) ≡ Less → ((at : ℕ) → is_found (place 5940 key t at) ≡ b)
-    → is_found (place 5940 key (map (pending_slot document01 r) q ++ t) at) ≡ b
+past : (key : List ℕ) (r : ResourceId) (q : Queue) (t : Table) (b : Bool) (at : ℕ) → order r (text key) ≡ Less → ((at : ℕ) → is_ok (place 5940 key t at) ≡ b)
+    → is_ok (place 5940 key (map (pending_slot document01 r) q ++ t) at) ≡ b
 unfolding place map
 past key r [] t b at o f = f at
 past key r (p ∷ q) t b at o f = rw (slot_text r p, o) (past key r q t b (at + 5940) o f)
 
 -- a key is found among the entries' slots exactly where its queue is there
-pub found_is : (key : List ℕ) (m : Map ResourceId Queue) → All (QueueFits document01) m → (at : ℕ) → is_found (place 5940 key (edit_slots document01 m) at) ≡ is_some (get by_name (text key) m)
+pub found_is : (key : List ℕ) (m : Map ResourceId Queue) → All (QueueFits document01) m → (at : ℕ) → is_ok (place 5940 key (edit_slots document01 m) at) ≡ is_some (get by_name (text key) m)
 unfolding edit_slots place get is_some by map
 found_is key [] a at = refl
 found_is key ((r, []) ∷ m) a at = absurd (let h = a.0.some in omega arith)
 found_is key ((r, p ∷ q) ∷ m) a at = go (by_name (text key) r) refl (found_is key m a.1)
   where
-    go : (o : Ordering) → by_name (text key) r ≡ o → ((at : ℕ) → is_found (place 5940 key (edit_slots document01 m) at) ≡ is_some (get by_name (text key) m))
-        → is_found (at_place (order (text (pending_slot document01 r p)) (text key)) at (place 5940 key (map (pending_slot document01 r) q ++ edit_slots document01 m) (at + 5940)))
-        ≡ is_some (by o none (some (p ∷ q)) (get by_name (text key) m))
+    go : (o : Ordering) → by_name (text key) r ≡ o → ((at : ℕ) → is_ok (place 5940 key (edit_slots document01 m) at) ≡ is_some (get by_name (text key) m))
+        → is_ok (at_place (order (text (pending_slot document01 r p)) (text key)) at (place 5940 key (map (pending_slot document01 r) q ++ edit_slots document01 m) (at + 5940)))
+        ≡ is_some (by o None (Some (p ∷ q)) (get by_name (text key) m))
     go Ordering.lt e f = rw (slot_text r p, name_order r (text key), e)
     go Ordering.eq e f = rw (slot_text r p, name_order r (text key), e)
     go Ordering.gt e f = rw (slot_text r p, name_order r (text key), e) (past key r q (edit_slots document01 m) _ (at + 5940) (name_order r (text key) ∙ ap flipped e) f)
@@ -159,44 +160,51 @@ for_is key (n, Purpose.Refresh r) ok = for_other key (n, Purpose.Refresh r) (oth
 abbrev pub FlightFits : RequestId × Purpose → Type 0
 FlightFits e = u64.Ok e.0 × purpose_f.Ok e.1
 
-pub all_below : (n : ℕ) (m : Map RequestId Purpose) → All FlightFits m → every_slot (is_below n) (map flight_slot m) ≡ all (λ id. ltb id n) (keys m)
-unfolding every_slot map keys all
+pub all_below : (n : ℕ) (m : Map RequestId Purpose) → All FlightFits m → list_all (is_below n) (map flight_slot m) ≡ all (λ id. ltb id n) (keys m)
+unfolding map keys all
 all_below n [] a = refl
-all_below n (e ∷ m) a = ap₂ both (below_of n e a.0.0) (all_below n m a.1) ∙ tables.both_and (ltb e.0 n) (all (λ id. ltb id n) (keys m))
+all_below n (e ∷ m) a = ap₂ ◌&&◌ (below_of n e a.0.0) (all_below n m a.1)
 
-pub all_queued : (s : SyncState) → All (QueueFits document01) s.edits → (m : Map RequestId Purpose) → All FlightFits m → every_slot (is_queued (edit_slots document01 s.edits)) (map flight_slot m) ≡ all (has_queue s) (values m)
-unfolding every_slot map values all
+pub all_queued : (s : SyncState) → All (QueueFits document01) s.edits → (m : Map RequestId Purpose) → All FlightFits m → list_all (is_queued (edit_slots document01 s.edits)) (map flight_slot m) ≡ all (has_queue s) (values m)
+unfolding map values all
 all_queued s q [] a = refl
-all_queued s q (e ∷ m) a = ap₂ both (queued_is s q e a.0.1) (all_queued s q m a.1) ∙ tables.both_and (has_queue s e.1) (all (has_queue s) (values m))
+all_queued s q (e ∷ m) a = ap₂ ◌&&◌ (queued_is s q e a.0.1) (all_queued s q m a.1)
 
-count_is : (key : List ℕ) (m : Map RequestId Purpose) → All FlightFits m → count_slots (is_for key) (map flight_slot m) ≡ count (for_edit (text key)) (values m)
-unfolding count_slots map values count filter when◌then◌else◌
-count_is key [] a = refl
-count_is key (e ∷ m) a = ap₂ ◌+◌ (ap one (for_is key e a.0.1)) (count_is key m a.1) ∙ go (for_edit (text key) e.1)
+picked : (key : List ℕ) (m : Map RequestId Purpose) → All FlightFits m → length (pick (is_for key) (map flight_slot m)) ≡ count (for_edit (text key)) (values m)
+unfolding map values count filter when◌then◌else◌
+picked key [] a = refl
+picked key (e ∷ m) a = go (is_for key (flight_slot e)) (for_edit (text key) e.1) (for_is key e a.0.1) (picked key m a.1)
   where
-    go : (b : Bool) → one b + length (filter (for_edit (text key)) (map (λ e. e.1) m)) ≡ length (when b then e.1 ∷ filter (for_edit (text key)) (map (λ e. e.1) m) else filter (for_edit (text key)) (map (λ e. e.1) m))
-    go true = omega arith
-    go false = omega arith
+    go : (b c : Bool) → b ≡ c → length (pick (is_for key) (map flight_slot m)) ≡ length (filter (for_edit (text key)) (map (λ e. e.1) m))
+        → length (cond b (flight_slot e ∷ pick (is_for key) (map flight_slot m)) (pick (is_for key) (map flight_slot m)))
+        ≡ length (when c then e.1 ∷ filter (for_edit (text key)) (map (λ e. e.1) m) else filter (for_edit (text key)) (map (λ e. e.1) m))
+    go true true p q = ap suc q
+    go false false p q = q
+    go true false p q = absurd (tables.false_true (sym p))
+    go false true p q = absurd (tables.false_true p)
+
+count_is : (key : List ℕ) (m : Map RequestId Purpose) → All FlightFits m → count_by (is_for key) (map flight_slot m) ≡ count (for_edit (text key)) (values m)
+count_is key m a = sym (length-filter (is_for key) (map flight_slot m)) ∙ picked key m a
 
 asked_is : (s : SyncState) → All FlightFits s.in_flight → (r : ResourceId) (p : Pending) → is_asked (map flight_slot s.in_flight) (pending_slot document01 r p) ≡ eqb (edit_requests r s) 1
 unfolding is_asked edit_requests
 asked_is s a r p = ap (λ (n : ℕ). eqb n 1) (count_is (pending_slot document01 r p) s.in_flight a ∙ ap (λ (x : Text). count (for_edit x) (values s.in_flight)) (slot_text r p))
 
-both_again : (b c : Bool) → both b (both b c) ≡ both b c
-both_again true c = refl
-both_again false c = refl
+and_again : (b c : Bool) → (b && (b && c)) ≡ (b && c)
+and_again true c = refl
+and_again false c = refl
 
 -- all entries of a queue are asked for alike
 queue_asked : (s : SyncState) → All FlightFits s.in_flight → (r : ResourceId) (p : Pending) (q : Queue) (t : Table)
-    → every_slot (is_asked (map flight_slot s.in_flight)) (map (pending_slot document01 r) (p ∷ q) ++ t) ≡ both (eqb (edit_requests r s) 1) (every_slot (is_asked (map flight_slot s.in_flight)) t)
-unfolding every_slot map
-queue_asked s a r p [] t = ap (λ (b : Bool). both b (every_slot (is_asked (map flight_slot s.in_flight)) t)) (asked_is s a r p)
-queue_asked s a r p (p' ∷ q) t = ap₂ both (asked_is s a r p) (queue_asked s a r p' q t) ∙ both_again (eqb (edit_requests r s) 1) (every_slot (is_asked (map flight_slot s.in_flight)) t)
+    → list_all (is_asked (map flight_slot s.in_flight)) (map (pending_slot document01 r) (p ∷ q) ++ t) ≡ (eqb (edit_requests r s) 1 && list_all (is_asked (map flight_slot s.in_flight)) t)
+unfolding map
+queue_asked s a r p [] t = ap (λ (b : Bool). b && list_all (is_asked (map flight_slot s.in_flight)) t) (asked_is s a r p)
+queue_asked s a r p (p' ∷ q) t = ap₂ ◌&&◌ (asked_is s a r p) (queue_asked s a r p' q t) ∙ and_again (eqb (edit_requests r s) 1) (list_all (is_asked (map flight_slot s.in_flight)) t)
 
 pub all_asked : (s : SyncState) → All FlightFits s.in_flight → (m : Map ResourceId Queue) → All (QueueFits document01) m
-    → every_slot (is_asked (map flight_slot s.in_flight)) (edit_slots document01 m) ≡ all (λ resource. eqb (edit_requests resource s) 1) (keys m)
-unfolding every_slot edit_slots keys map all
+    → list_all (is_asked (map flight_slot s.in_flight)) (edit_slots document01 m) ≡ all (λ resource. eqb (edit_requests resource s) 1) (keys m)
+unfolding edit_slots keys map all
 all_asked s a [] q = refl
 all_asked s a ((r, []) ∷ m) q = absurd (let h = q.0.some in omega arith)
 all_asked s a ((r, p ∷ l) ∷ m) q =
-    queue_asked s a r p l (edit_slots document01 m) ∙ ap (both (eqb (edit_requests r s) 1)) (all_asked s a m q.1) ∙ tables.both_and (eqb (edit_requests r s) 1) (all (λ resource. eqb (edit_requests resource s) 1) (keys m))
+    queue_asked s a r p l (edit_slots document01 m) ∙ ap (λ (b : Bool). eqb (edit_requests r s) 1 && b) (all_asked s a m q.1)

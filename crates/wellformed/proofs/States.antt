@@ -1,12 +1,12 @@
 -- The whole buffer: a state that fits, with the rules across its tables, is a well-formed one. Assumes nothing.
-use Prim.Native.Nat.{ℕ, ◌+◌, ◌-◌, ◌*◌, ◌≤◌, ◌<◌}
+use Rattle.std.specs.Prelude.{Some}
+use Prim.Native.Nat.{ℕ, ◌+◌, ◌*◌, ◌≤◌, ◌<◌}
 use native.Mathlib.Nat.{mul-le-mul_right}
 use native.Mathlib.Omega.{arith}
 use mathlib.Core.Path.{◌≡◌, sym, ap, ap₂, ◌∙◌, subst}
 use mathlib.Core.List.{List}
 use mathlib.Core.Bool.{Bool, true}
-use mathlib.Core.Option.{some}
-use lib.ListN.{length, take, drop, get_or}
+use lib.ListN.{length, get_or}
 use lib.Dec.{ltb, eqb}
 use Rattle.spans.specs.Bytes.{both}
 use Rattle.tables.specs.Table.{Table, Sized, enc_table, slots_of, Holds}
@@ -44,20 +44,6 @@ edits_of b Q = record { edits = Q.edits; fits = Q.fit; bytes = Q.bytes }
 pub queues_of : (b : List ℕ) → EditsIn b → QueuesIn (part 20002 35641 b)
 unfolding document01
 queues_of b E = record { edits = E.edits; fit = E.fits; bytes = E.bytes }
-
--- ---- parts of the buffer as they are lent
-
-pub queues_part : (b : List ℕ) (at len : ℕ) (r : Bool) → (r ≡ true → QueuesIn (take (at + len - at) (drop at b))) × (QueuesIn (take (at + len - at) (drop at b)) → r ≡ true)
-    → (r ≡ true → QueuesIn (part at len b)) × (QueuesIn (part at len b) → r ≡ true)
-queues_part b at len r h =
-    subst (λ (x : List ℕ). (r ≡ true → QueuesIn x) × (QueuesIn x → r ≡ true)) (tables.part_is b len at) h
-
-pub holds_part : (stride at len : ℕ) (b : List ℕ) → Holds stride (part at len b) → Holds stride (take (at + len - at) (drop at b))
-holds_part stride at len b h = subst (Holds stride) (sym (tables.part_is b len at)) h
-
-pub agree_part : (n f e : ℕ) (b : List ℕ) (r : Bool) → r ≡ agree n (slots_of 43 (take (f + 1033 - f) (drop f b))) (slots_of 5940 (take (e + 35641 - e) (drop e b)))
-    → r ≡ agree n (slots_of 43 (part f 1033 b)) (slots_of 5940 (part e 35641 b))
-agree_part n f e b r h = h ∙ ap₂ (λ (x y : List ℕ). agree n (slots_of 43 x) (slots_of 5940 y)) (tables.part_is b 1033 f) (tables.part_is b 35641 e)
 
 -- ---- the tables of the rules
 
@@ -142,10 +128,10 @@ waiting_of b I = whole.edits_part I.state b (keeps_of I)
 
 -- ---- which bytes are read as a state
 
-pub read_of : {b : List ℕ} (I : IsState b) → read_state document01 b ≡ some I.state
+pub read_of : {b : List ℕ} (I : IsState b) → read_state document01 b ≡ Some I.state
 read_of {b} I = (states_exact document01 b I.state).1 (I.well, I.bytes ∙ layout_is document01 I.state (fits_of document01 I.state I.well))
 
-pub is_read : {b : List ℕ} {s : SyncState} → read_state document01 b ≡ some s → IsState b
+pub is_read : {b : List ℕ} {s : SyncState} → read_state document01 b ≡ Some s → IsState b
 is_read {b} {s} e =
     let h = (states_exact document01 b s).0 e in
     record { state = s; well = h.0; bytes = h.1 ∙ sym (layout_is document01 s (fits_of document01 s h.0)) }

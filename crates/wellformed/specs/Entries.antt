@@ -1,11 +1,9 @@
 -- The region of the waiting entries: a count byte and slots, each the fields of one entry in their widths. Assumes nothing.
-use Rattle.std.specs.Prelude.{ℕ, ◌≡◌, List, [], ◌∷◌, Bool, true, false}
-use Rattle.std.proofs.Math.Option.{Option}
+use Rattle.std.specs.Prelude.{ℕ, ◌≡◌, List, Bool, Option}
 use Rattle.format.specs.Format.{Format, ◌⊗◌, option, list, padded, stamp, bool}
-use Rattle.spans.specs.Bytes.{both}
 use Rattle.spans.specs.Compare.{order}
-use Rattle.spans.specs.declared.Order.{Order}
-use Rattle.spans.specs.declared.Order.TheVariants.{Less, Equal, Greater}
+use Rattle.std.specs.Ordering.{is_le}
+use Rattle.strides.specs.Walk.{neighbours}
 use Rattle.tables.specs.Table.{Table, text}
 use Rattle.model.specs.Seam.{ResourceId}
 use Rattle.model.specs.Parts.{Role, Conflict, Refused}
@@ -35,19 +33,13 @@ entry_f =
 unfoldable pub entries_f : Format (List Entry)
 entries_f = padded 35641 (list 6 entry_f)
 
-abbrev pub not_greater : Order → Bool
-not_greater Less = true
-not_greater Equal = true
-not_greater Greater = false
+-- the key of one slot is not above that of the next
+abbrev pub in_order : List ℕ → List ℕ → Bool
+in_order s u = is_le (order (text s) (text u))
 
 -- keys never fall: slots with one key stand side by side
-unfoldable pub ordered_from : List ℕ → Table → Bool
-ordered_from s [] = true
-ordered_from s (u ∷ t) = both (not_greater (order (text s) (text u))) (ordered_from u t)
-
-unfoldable pub ordered : Table → Bool
-ordered [] = true
-ordered (s ∷ t) = ordered_from s t
+abbrev pub ordered : Table → Bool
+ordered = neighbours in_order
 
 -- the region holds some queues
 pub record QueuesIn (b : List ℕ) : Type 0 where

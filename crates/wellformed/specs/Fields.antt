@@ -1,15 +1,7 @@
--- Where a value in its width ends. Assumes nothing.
-use Rattle.std.specs.Prelude.{ℕ, ◌+◌, ◌-◌, List, Bool, true, false, ◌&&◌, length, take, drop, leb}
-use Rattle.spans.specs.Bytes.{all_zero}
-use Rattle.frame.specs.Read.{stopped}
-use Rattle.frame.specs.declared.Cursor.{Cursor}
+-- What is left behind a value in its width. Assumes nothing.
+use Rattle.std.specs.Prelude.{ℕ, List, Option, Some, None, cond, length, take, drop, leb}
+use Rattle.regions.specs.Tests.{zeros_left}
 
-abbrev pub ended : Bool → ℕ → Cursor
-ended true at = record { at = at; ok = true }
-ended false at = stopped
-
--- the place after w bytes from `at` on, where the bytes from `next` on to there are zeros
-unfoldable pub filled : ℕ → List ℕ → ℕ → Cursor → Cursor
-filled w s at next =
-    let end = at + w in
-    ended (next.ok && (leb end (length s) && (leb next.at end && all_zero (take (end - next.at) (drop next.at s))))) end
+-- where `behind` says what is left behind the value at the front: w bytes further, if zeros are left of them
+abbrev pub in_width : ℕ → (List ℕ → Option (List ℕ)) → List ℕ → Option (List ℕ)
+in_width w behind s = cond (leb w (length s)) (cond (zeros_left (behind (take w s))) (Some (drop w s)) None) None

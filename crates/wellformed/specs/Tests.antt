@@ -1,12 +1,10 @@
 -- The tests of the in_flight slots against `next_request` and against the waiting entries' slots. Assumes nothing.
-use Rattle.std.specs.Prelude.{ℕ, ◌+◌, List, [], ◌∷◌, Bool, true, false, not, take, drop, get_or, ltb, eqb}
+use Rattle.std.specs.Prelude.{ℕ, List, Bool, not, take, drop, get_or, ltb, eqb, count_by, is_ok}
+use Rattle.std.specs.List.{list_all}
 use Rattle.spans.specs.Bytes.{both}
 use Rattle.spans.specs.Compare.{order}
 use Rattle.numbers.specs.Big.{from_be}
 use Rattle.tables.specs.Table.{Table, text, place, either, is_equal}
-use Rattle.tables.specs.declared.Place.{Place}
-use Rattle.tables.specs.declared.Place.TheVariants.{Found, Missing}
-use Rattle.regions.specs.Tests.{every_slot}
 
 -- the number of an in_flight slot is below n
 unfoldable pub is_below : ℕ → List ℕ → Bool
@@ -20,30 +18,18 @@ is_edit s = either (eqb (get_or s 9 0) 2) (eqb (get_or s 9 0) 3)
 abbrev pub key_in : List ℕ → List ℕ
 key_in s = take 33 (drop 10 s)
 
-abbrev pub is_found : Place → Bool
-is_found (Found at) = true
-is_found (Missing at) = false
-
 -- if it is for an edit, entries of its resource wait
 unfoldable pub is_queued : Table → List ℕ → Bool
-is_queued entries s = either (not (is_edit s)) (is_found (place 5940 (key_in s) entries 1))
+is_queued entries s = either (not (is_edit s)) (is_ok (place 5940 (key_in s) entries 1))
 
 -- it is for an edit of the resource whose key starts a slot
 unfoldable pub is_for : List ℕ → List ℕ → Bool
 is_for key s = both (is_edit s) (is_equal (order (text (key_in s)) (text key)))
 
-abbrev pub one : Bool → ℕ
-one true = 1
-one false = 0
-
-unfoldable pub count_slots : (List ℕ → Bool) → Table → ℕ
-count_slots p [] = 0
-count_slots p (s ∷ t) = one (p s) + count_slots p t
-
 -- one request in flight is for an edit of its resource
 unfoldable pub is_asked : Table → List ℕ → Bool
-is_asked flights key = eqb (count_slots (is_for key) flights) 1
+is_asked flights key = eqb (count_by (is_for key) flights) 1
 
 -- all three
 unfoldable pub agree : ℕ → Table → Table → Bool
-agree n flights entries = both (every_slot (is_below n) flights) (both (every_slot (is_asked flights) entries) (every_slot (is_queued entries) flights))
+agree n flights entries = both (list_all (is_below n) flights) (both (list_all (is_asked flights) entries) (list_all (is_queued entries) flights))

@@ -7,5 +7,4 @@ mod slot;
 mod table;
 
 pub use buffer::{STATE, is_state};
-pub use rules::bit;
 pub use table::entries_in;

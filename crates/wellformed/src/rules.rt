@@ -1,187 +1,107 @@
 // The rules across tables.
-ghost use Rattle.std.specs.Prelude.{◌≡◌, ◌+◌, ◌≤◌, ◌<◌, length, take, drop};
+ghost use Rattle.std.specs.Prelude.{◌≡◌, ◌<◌, length, count_by};
+ghost use Rattle.std.specs.List.{list_all};
 ghost use Rattle.tables.specs.Table.{Holds, slots_of};
-ghost use Rattle.regions.specs.Tests.{every_slot};
-ghost use Rattle.wellformed.specs.Tests.{is_below, is_edit, is_queued, is_for, one, count_slots, is_asked, agree};
+ghost use Rattle.wellformed.specs.Tests.{is_below, is_edit, is_queued, is_for, is_asked, agree};
 
 use crate::table::ENTRY;
-use spans::Order;
-use tables::Place;
 
 const FLIGHT: usize = 43;
 
-const FLIGHT_NUMBER: usize = 1;
+// Where a request's number stands in a slot, and its purpose: the kind, and a name.
+const NUMBER: usize = 1;
 
-const FLIGHT_KIND: usize = 9;
+const KIND: usize = 9;
 
-const FLIGHT_NAME: usize = 10;
+const RESOURCE: usize = 10;
 
-fn number_below(flights: &[u8], at: usize, n: u64) -> bool
-    requires { at + 43 ≤ length flights.now }
-    ensures { result ≡ is_below n (take 43 (drop at flights.now)) }
+#[tactic(auto, unfolding(crate::specs::Tests::is_below))]
+fn is_below(flight: &[u8], n: u64) -> bool
+    requires { length flight.now ≡ 43 }
+    ensures { result ≡ is_below n flight.now }
 {
-    let from = at + FLIGHT_NUMBER;
-    let number = numbers::get_be(flights, from);
-    number < n
+    numbers::get_be(flight, NUMBER) < n
 }
 
 // Whether every number in flight is below n.
 fn numbers_below(flights: &[u8], n: u64) -> bool
     requires { Holds 43 flights.now }
-    ensures { result ≡ every_slot (is_below n) (slots_of 43 flights.now) }
+    ensures { result ≡ list_all (is_below n) (slots_of 43 flights.now) }
 {
-    let mut left = flights[0] as usize;
-    let mut at = 1;
-    while 0 < left {
-        if !number_below(flights, at, n) {
-            return false;
-        }
-        at += FLIGHT;
-        left -= 1;
-    }
-    true
+    strides::slots(flights, FLIGHT).all(|flight| is_below(flight, n))
 }
 
-// Whether the request in flight at `at` reads or writes for an edit.
-fn is_edit(flights: &[u8], at: usize) -> bool
-    requires { at + 43 ≤ length flights.now }
-    ensures { result ≡ is_edit (take 43 (drop at flights.now)) }
+// Whether the request in flight reads or writes for an edit.
+#[tactic(auto, unfolding(crate::specs::Tests::is_edit))]
+fn is_edit(flight: &[u8]) -> bool
+    requires { length flight.now ≡ 43 }
+    ensures { result ≡ is_edit flight.now }
 {
-    let kind = flights[at + FLIGHT_KIND];
-    if kind == 2 {
-        return true;
-    }
-    kind == 3
+    matches!(flight[KIND], 2 | 3)
 }
 
 // Whether entries of its resource wait, if it is for an edit.
-fn is_queued(flights: &[u8], at: usize, entries: &[u8]) -> bool
-    requires at_in_bounds { at + 43 ≤ length flights.now }
+#[tactic(auto, unfolding(crate::specs::Tests::is_queued))]
+fn is_queued(flight: &[u8], entries: &[u8]) -> bool
+    requires long { length flight.now ≡ 43 }
     requires holds { Holds 5940 entries.now }
-    ensures { result ≡ is_queued (slots_of 5940 entries.now) (take 43 (drop at flights.now)) }
+    ensures { result ≡ is_queued (slots_of 5940 entries.now) flight.now }
 {
-    if !is_edit(flights, at) {
-        return true;
-    }
-    let from = at + FLIGHT_NAME;
-    let to = at + FLIGHT;
-    let p = tables::find(entries, ENTRY, &flights[from..to]);
-    match p {
-        Place::Found(_) => {
-            return true;
-        }
-        Place::Missing(_) => {
-            return false;
-        }
-    }
+    !is_edit(flight) || tables::find(entries, ENTRY, &flight[RESOURCE..]).is_ok()
 }
 
 fn all_queued(flights: &[u8], entries: &[u8]) -> bool
     requires holds { Holds 43 flights.now }
     requires holds_2 { Holds 5940 entries.now }
-    ensures { result ≡ every_slot (is_queued (slots_of 5940 entries.now)) (slots_of 43 flights.now) }
+    ensures { result ≡ list_all (is_queued (slots_of 5940 entries.now)) (slots_of 43 flights.now) }
 {
-    let mut left = flights[0] as usize;
-    let mut at = 1;
-    while 0 < left {
-        if !is_queued(flights, at, entries) {
-            return false;
-        }
-        at += FLIGHT;
-        left -= 1;
-    }
-    true
+    strides::slots(flights, FLIGHT).all(|flight| is_queued(flight, entries))
 }
 
-// Whether the request in flight at `at` is for an edit of the resource whose key starts `key`.
-fn is_for(flights: &[u8], at: usize, key: &[u8]) -> bool
-    requires at_in_bounds { at + 43 ≤ length flights.now }
+// Whether the request in flight is for an edit of the resource whose key starts `key`.
+#[tactic(auto, unfolding(crate::specs::Tests::is_for))]
+fn is_for(flight: &[u8], key: &[u8]) -> bool
+    requires long { length flight.now ≡ 43 }
     requires key_nonzero { 0 < length key.now }
-    ensures { result ≡ is_for key.now (take 43 (drop at flights.now)) }
+    ensures { result ≡ is_for key.now flight.now }
 {
-    if !is_edit(flights, at) {
-        return false;
-    }
-    let from = at + FLIGHT_NAME;
-    let to = at + FLIGHT;
-    let o = tables::key_order(&flights[from..to], key);
-    match o {
-        Order::Less => {
-            return false;
-        }
-        Order::Equal => {
-            return true;
-        }
-        Order::Greater => {
-            return false;
-        }
-    }
-}
-
-pub fn bit(b: bool) -> usize
-    ensures { result ≡ one b }
-{
-    if b {
-        return 1;
-    }
-    0
+    is_edit(flight) && tables::key_order(&flight[RESOURCE..], key).is_eq()
 }
 
 // How many are.
 fn requests(flights: &[u8], key: &[u8]) -> usize
     requires holds { Holds 43 flights.now }
     requires key_nonzero { 0 < length key.now }
-    ensures { result ≡ count_slots (is_for key.now) (slots_of 43 flights.now) }
+    ensures { result ≡ count_by (is_for key.now) (slots_of 43 flights.now) }
 {
-    let mut left = flights[0] as usize;
-    let mut at = 1;
-    let mut n: usize = 0;
-    while 0 < left {
-        n += bit(is_for(flights, at, key));
-        at += FLIGHT;
-        left -= 1;
-    }
-    n
+    strides::slots(flights, FLIGHT)
+        .filter(|flight| is_for(flight, key))
+        .count()
 }
 
-// Whether one request in flight is for an edit of the resource of the entry at `at`.
-fn is_asked(flights: &[u8], entries: &[u8], at: usize) -> bool
+// Whether one request in flight is for an edit of the entry's resource.
+#[tactic(auto, unfolding(crate::specs::Tests::is_asked))]
+fn is_asked(flights: &[u8], entry: &[u8]) -> bool
     requires holds { Holds 43 flights.now }
-    requires at_in_bounds { at + 5940 ≤ length entries.now }
-    ensures { result ≡ is_asked (slots_of 43 flights.now) (take 5940 (drop at entries.now)) }
+    requires long { length entry.now ≡ 5940 }
+    ensures { result ≡ is_asked (slots_of 43 flights.now) entry.now }
 {
-    let to = at + ENTRY;
-    let n = requests(flights, &entries[at..to]);
-    n == 1
+    requests(flights, entry) == 1
 }
 
 fn all_asked(flights: &[u8], entries: &[u8]) -> bool
     requires holds { Holds 43 flights.now }
     requires holds_2 { Holds 5940 entries.now }
-    ensures { result ≡ every_slot (is_asked (slots_of 43 flights.now)) (slots_of 5940 entries.now) }
+    ensures { result ≡ list_all (is_asked (slots_of 43 flights.now)) (slots_of 5940 entries.now) }
 {
-    let mut left = entries[0] as usize;
-    let mut at = 1;
-    while 0 < left {
-        if !is_asked(flights, entries, at) {
-            return false;
-        }
-        at += ENTRY;
-        left -= 1;
-    }
-    true
+    strides::slots(entries, ENTRY).all(|entry| is_asked(flights, entry))
 }
 
+#[tactic(auto, unfolding(crate::specs::Tests::agree))]
 pub fn agree(flights: &[u8], entries: &[u8], n: u64) -> bool
     requires holds { Holds 43 flights.now }
     requires holds_2 { Holds 5940 entries.now }
     ensures { result ≡ agree n (slots_of 43 flights.now) (slots_of 5940 entries.now) }
 {
-    if !numbers_below(flights, n) {
-        return false;
-    }
-    if !all_asked(flights, entries) {
-        return false;
-    }
-    all_queued(flights, entries)
+    numbers_below(flights, n) && all_asked(flights, entries) && all_queued(flights, entries)
 }

@@ -1,12 +1,13 @@
 // A waiting entry: the fields of its slot.
-ghost use Rattle.std.specs.Prelude.{◌≡◌};
+ghost use Rattle.std.specs.Prelude.{◌≡◌, List, ℕ, Option};
 ghost use Rattle.format.specs.Format.{option, list, stamp, bool, padded};
 ghost use Rattle.model.specs.Formats.{resource_id, short_text, operation_f, role_f, conflicts_f, refusals_f};
-ghost use Rattle.frame.specs.Read.{skips};
-ghost use Rattle.wellformed.specs.Fields.{filled};
+ghost use Rattle.reader.specs.Left.{rest, left, after};
+ghost use Rattle.reader.specs.declared.Reader.{Reader};
+ghost use Rattle.wellformed.specs.Fields.{in_width};
 ghost use Rattle.wellformed.specs.Entries.{entry_f};
 
-use frame::Cursor;
+use reader::Reader;
 
 const NAME: usize = 33;
 
@@ -24,130 +25,124 @@ const MAX_ABSORBED: u8 = 8;
 
 const ABSORBED: usize = 265;
 
-// The place after `width` bytes from `at` on, where zeros stand behind the value that ends at `next`; else a stopped one.
-pub fn filled(s: &[u8], at: usize, next: Cursor, width: usize) -> Cursor
-    ensures { result ≡ filled width s.now at next }
+// The place behind `width` bytes, where zeros are left of them behind the value that is walked past.
+pub fn padded<'a, W: FnOnce(Reader<'a>) -> Option<Reader<'a>>>(
+    at: Reader<'a>,
+    width: usize,
+    walk: W,
+) -> Option<Reader<'a>>
+    requires { W.IsAlwaysCallable walk }
+    ensures { (behind : List ℕ → Option (List ℕ)) → ((x : Reader) (r : Option Reader) → W.post walk x r → left r ≡ behind (rest x)) → left result ≡ in_width width behind (rest at.entry) }
 {
-    let mid = next.at;
-    if !next.ok {
-        return Cursor { at: 0, ok: false };
+    let (field, rest) = at.rest.split_at_checked(width)?;
+    if regions::ends(walk(Reader { rest: field })) {
+        Some(Reader { rest })
+    } else {
+        None
     }
-    if s.len() < at {
-        return Cursor { at: 0, ok: false };
+}
+
+#[tactic(auto, using(reader::proofs::Laws::cases), unfolding(model::specs::Formats::operation_f))]
+fn skip_operation(at: Reader<'_>) -> Option<Reader<'_>>
+    ensures { left result ≡ after operation_f (rest at.entry) }
+{
+    let (case, next) = at.byte(2)?;
+    match case {
+        0 => next.skip_event(),
+        1 => next.skip_fields()?.skip_fields(),
+        _ => Some(next),
     }
-    if s.len() - at < width {
-        return Cursor { at: 0, ok: false };
+}
+
+#[tactic(auto, using(reader::proofs::Laws::cases), unfolding(model::specs::Formats::role_f))]
+fn skip_role(at: Reader<'_>) -> Option<Reader<'_>>
+    ensures { left result ≡ after role_f (rest at.entry) }
+{
+    let (case, next) = at.byte(1)?;
+    match case {
+        0 => Some(next),
+        _ => next.skip_short_text(),
     }
-    let end = at + width;
-    if end < mid {
-        return Cursor { at: 0, ok: false };
+}
+
+#[tactic(auto, using(reader::proofs::Laws::lists))]
+fn skip_edit_ids(at: Reader<'_>) -> Option<Reader<'_>>
+    ensures { left result ≡ after (list 8 short_text) (rest at.entry) }
+{
+    let (count, mut next) = at.byte(MAX_ABSORBED)?;
+    for _i in 0..count {
+        next = next.skip_short_text()?;
     }
-    if spans::all_zero(&s[mid..end]) {
-        return Cursor { at: end, ok: true };
-    }
-    Cursor { at: 0, ok: false }
+    Some(next)
 }
 
-fn resource(place: Cursor, s: &[u8]) -> Cursor
-    ensures { result ≡ skips (padded 33 resource_id) s.now place }
+// The fields, each in its width.
+
+fn resource(at: Reader<'_>) -> Option<Reader<'_>>
+    ensures { left result ≡ after (padded 33 resource_id) (rest at.entry) }
 {
-    let at = place.at;
-    let next = place.skip_resource_id(s);
-    filled(s, at, next, NAME)
+    padded(at, NAME, |field| field.skip_resource_id())
 }
 
-fn edit_id(place: Cursor, s: &[u8]) -> Cursor
-    ensures { result ≡ skips (padded 33 short_text) s.now place }
+fn edit_id(at: Reader<'_>) -> Option<Reader<'_>>
+    ensures { left result ≡ after (padded 33 short_text) (rest at.entry) }
 {
-    let at = place.at;
-    let next = place.skip_short_text(s);
-    filled(s, at, next, NAME)
+    padded(at, NAME, |field| field.skip_short_text())
 }
 
-fn operation(place: Cursor, s: &[u8]) -> Cursor
-    ensures { result ≡ skips (padded 1469 operation_f) s.now place }
+fn operation(at: Reader<'_>) -> Option<Reader<'_>>
+    ensures { left result ≡ after (padded 1469 operation_f) (rest at.entry) }
 {
-    let at = place.at;
-    let read = place.operation(s);
-    let next = read.next;
-    filled(s, at, next, OPERATION)
+    padded(at, OPERATION, skip_operation)
 }
 
-fn role(place: Cursor, s: &[u8]) -> Cursor
-    ensures { result ≡ skips (padded 34 role_f) s.now place }
+fn role(at: Reader<'_>) -> Option<Reader<'_>>
+    ensures { left result ≡ after (padded 34 role_f) (rest at.entry) }
 {
-    let at = place.at;
-    let read = place.role(s);
-    let next = read.next;
-    filled(s, at, next, ROLE)
+    padded(at, ROLE, skip_role)
 }
 
-fn expiry(place: Cursor, s: &[u8]) -> Cursor
-    ensures { result ≡ skips (padded 9 (option stamp)) s.now place }
+fn expiry(at: Reader<'_>) -> Option<Reader<'_>>
+    ensures { left result ≡ after (padded 9 (option stamp)) (rest at.entry) }
 {
-    let at = place.at;
-    let read = place.expiry(s);
-    let next = read.next;
-    filled(s, at, next, EXPIRY)
+    padded(at, EXPIRY, |field| regions::skip_time(field))
 }
 
-fn conflicts(place: Cursor, s: &[u8]) -> Cursor
-    ensures { result ≡ skips (padded 3072 conflicts_f) s.now place }
+fn conflicts(at: Reader<'_>) -> Option<Reader<'_>>
+    ensures { left result ≡ after (padded 3072 conflicts_f) (rest at.entry) }
 {
-    let at = place.at;
-    let next = effects::skip_conflicts(place, s);
-    filled(s, at, next, CONFLICTS)
+    padded(at, CONFLICTS, |field| field.skip_conflicts())
 }
 
-fn refused(place: Cursor, s: &[u8]) -> Cursor
-    ensures { result ≡ skips (padded 1024 refusals_f) s.now place }
+fn refused(at: Reader<'_>) -> Option<Reader<'_>>
+    ensures { left result ≡ after (padded 1024 refusals_f) (rest at.entry) }
 {
-    let at = place.at;
-    let next = effects::skip_refusals(place, s);
-    filled(s, at, next, REFUSED)
+    padded(at, REFUSED, |field| field.skip_refusals())
 }
 
-fn collided(place: Cursor, s: &[u8]) -> Cursor
-    ensures { result ≡ skips (padded 1 bool) s.now place }
+fn collided(at: Reader<'_>) -> Option<Reader<'_>>
+    ensures { left result ≡ after (padded 1 bool) (rest at.entry) }
 {
-    let at = place.at;
-    let next = place.skip_below(s, 2);
-    filled(s, at, next, 1)
+    padded(at, 1, |field| regions::skip_flag(field))
 }
 
-fn edit_ids(place: Cursor, s: &[u8]) -> Cursor
-    ensures { result ≡ skips (list 8 short_text) s.now place }
+fn absorbed(at: Reader<'_>) -> Option<Reader<'_>>
+    ensures { left result ≡ after (padded 265 (list 8 short_text)) (rest at.entry) }
 {
-    let count = place.count(s, MAX_ABSORBED);
-    let n = count.value;
-    let mut c = count.next;
-    let mut i: u8 = 0;
-    while i < n {
-        c = c.skip_short_text(s);
-        i += 1;
-    }
-    c
+    padded(at, ABSORBED, skip_edit_ids)
 }
 
-fn absorbed(place: Cursor, s: &[u8]) -> Cursor
-    ensures { result ≡ skips (padded 265 (list 8 short_text)) s.now place }
+// The place behind an entry's slot.
+pub fn skip_entry(at: Reader<'_>) -> Option<Reader<'_>>
+    ensures { left result ≡ after entry_f (rest at.entry) }
 {
-    let at = place.at;
-    let next = edit_ids(place, s);
-    filled(s, at, next, ABSORBED)
-}
-
-// The place after an entry's slot.
-pub fn entry(place: Cursor, s: &[u8]) -> Cursor
-    ensures { result ≡ skips entry_f s.now place }
-{
-    let q1 = resource(place, s);
-    let q2 = edit_id(q1, s);
-    let q3 = operation(q2, s);
-    let q4 = role(q3, s);
-    let q5 = expiry(q4, s);
-    let q6 = conflicts(q5, s);
-    let q7 = refused(q6, s);
-    let q8 = collided(q7, s);
-    absorbed(q8, s)
+    let next = resource(at)?;
+    let next = edit_id(next)?;
+    let next = operation(next)?;
+    let next = role(next)?;
+    let next = expiry(next)?;
+    let next = conflicts(next)?;
+    let next = refused(next)?;
+    let next = collided(next)?;
+    absorbed(next)
 }

@@ -1,12 +1,14 @@
 // Inputs, answers and effects in words, and frames of two clerks, for those who read them.
 #![tactic(auto)]
 
+mod cutting;
 mod grammar;
 mod route;
 mod walk;
 
 ghost use Rattle.phrases.specs.Shown.{Shows};
 
+pub use cutting::{Effects, effects_in};
 use grammar::said;
 use pens::Pen;
 
@@ -21,8 +23,7 @@ pub fn input(pen: Pen, out: &mut [u8], frame: &[u8]) -> Pen
 pub fn answer(pen: Pen, out: &mut [u8], code: u8) -> Pen
     ensures { Shows out.old out.new pen result }
 {
-    let byte = [code];
-    said(pen, out, &byte, b"answer")
+    said(pen, out, &[code], b"answer")
 }
 
 // What an effect says.

@@ -12,14 +12,12 @@ use phrases::{Found, rule, step};
 // More than the longest walk has: an effect with 255 conflicts and 255 refused fields takes about 30,000.
 const TURNS: u32 = 65536;
 
-// Where the walk is in the rules, in the frame and in the text; the phrase that was said last, or 0; whether it goes on.
+// Where the walk is in the rules and in the frame, and the phrase that was said last.
 #[derive(Clone, Copy)]
 struct Walk {
     route: Route,
     at: usize,
-    pen: Pen,
-    last: u8,
-    on: bool,
+    last: Option<u8>,
 }
 
 // Says a frame by the rule of this name.
@@ -27,87 +25,73 @@ pub fn follow(pen: Pen, out: &mut [u8], frame: &[u8], rules: &[u8], name: &[u8])
     requires { T (plain rules.now) }
     ensures { Shows out.old out.new pen result }
 {
-    let mut walk = Walk {
-        route: route::to(rule(rules, name)),
+    let mut said = pen;
+    let mut walk = rule(rules, name).map(|step| Walk {
+        route: route::to(step),
         at: 0,
-        pen,
-        last: 0,
-        on: true,
-    };
-    let mut turns = TURNS;
-    while 0 < turns {
-        if !walk.on {
-            return walk.pen;
-        }
-        walk = turn(walk, out, frame, rules);
-        turns -= 1;
+        last: None,
+    });
+    for _ in 0..TURNS {
+        let Some(here) = walk else {
+            return said;
+        };
+        let (end, next) = turn(here, said, out, frame, rules);
+        said = end;
+        walk = next;
     }
-    walk.pen
+    said
 }
 
-// One step, or the end of a rule.
-fn turn(walk: Walk, out: &mut [u8], frame: &[u8], rules: &[u8]) -> Walk
+// One step, or the end of a rule; then where the walk goes on.
+fn turn(walk: Walk, pen: Pen, out: &mut [u8], frame: &[u8], rules: &[u8]) -> (Pen, Option<Walk>)
     requires { T (plain rules.now) }
-    ensures { Shows out.old out.new walk.pen result.pen }
+    ensures { Shows out.old out.new pen result.0 }
 {
     let route = walk.route;
-    let pen = walk.pen;
     let text = step(rules, route.step);
-    if text.len() == 0 {
-        return Walk {
-            route: route.leave(),
-            pen,
-            on: 0 < route.depth,
-            ..walk
-        };
-    }
-    let sign = text[0];
+    let [sign, ..] = text else {
+        return (pen, route.leave().map(|route| Walk { route, ..walk }));
+    };
     let words = part(text, 2, text.len());
-    let read = phrases::read(frame, walk.at, sign);
-    let next = route.onward(rules, sign, words, read.value);
-    let found = checked(read, sign, next.step);
-    let name = found.phrase;
-    let phrase = phrase(rules, name);
-    Walk {
-        route: next,
-        at: found.next,
-        pen: phrases::say(pen, out, frame, phrase, words, found, walk.last),
-        last: last_said(walk.last, name),
-        on: found.ok,
-    }
+    let read = phrases::read(frame, walk.at, *sign);
+    let next = route.onward(rules, *sign, words, read.value);
+    let found = checked(read, *sign, next);
+    let phrase = phrase(rules, found.phrase);
+    let said = phrases::say(pen, out, frame, phrase, words, found, walk.last);
+    (said, walk.onward(found, next))
 }
 
-// The phrase of this name; nothing for 0.
-fn phrase(rules: &[u8], name: u8) -> &[u8]
+// The phrase of this name; nothing for none.
+#[tactic(auto, using(phrases::proofs::Steps::plain_step))]
+fn phrase(rules: &[u8], name: Option<u8>) -> &[u8]
     requires { T (plain rules.now) }
     ensures { T (plain result.now) }
 {
-    if name == 0 {
-        return &rules[..0];
+    match name.and_then(|name| rule(rules, &[name])) {
+        Some(at) => step(rules, at),
+        None => &[],
     }
-    let names = [name];
-    step(rules, rule(rules, &names))
 }
 
 // A byte that picks no alternative is wrong; what is wrong is said by the sign.
-fn checked(found: Found, sign: u8, next: usize) -> Found {
-    if !found.ok {
-        return found;
-    }
-    if 0 < next {
-        return found;
-    }
-    Found {
-        ok: false,
-        phrase: sign,
-        ..found
+fn checked(found: Found, sign: u8, next: Option<Route>) -> Found {
+    match (found.next, next) {
+        (Some(_), None) => Found {
+            phrase: Some(sign),
+            next: None,
+            ..found
+        },
+        _ => found,
     }
 }
 
-// The phrase that was said last, where 0 says nothing.
-fn last_said(last: u8, phrase: u8) -> u8 {
-    if phrase == 0 {
-        return last;
+impl Walk {
+    // Behind what was found, where it is what it should be.
+    fn onward(self, found: Found, next: Option<Route>) -> Option<Walk> {
+        Some(Walk {
+            route: next?,
+            at: found.next?,
+            last: found.phrase.or(self.last),
+        })
     }
-    phrase
 }

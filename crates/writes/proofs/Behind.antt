@@ -1,6 +1,6 @@
 -- The entries behind a head, moved one at a time, against the definition; and remap. Assumes nothing.
-use Prim.Native.Nat.{Ordering}
-use Prim.Native.Nat.{ℕ, zero, suc, ◌+◌, ◌-◌, ◌≤◌, ◌<◌}
+use Rattle.std.specs.Prelude.{Option, Some, None}
+use Prim.Native.Nat.{Ordering, ℕ, zero, suc, ◌+◌, ◌-◌, ◌≤◌, ◌<◌}
 use native.Mathlib.Omega.{arith}
 use mathlib.Core.Path.{◌≡◌, refl, sym, ap, ◌∙◌, subst}
 use mathlib.Core.List.{List, [], ◌∷◌, ◌++◌, append-nil}
@@ -12,14 +12,17 @@ use Rattle.model.specs.Seam.{ResourceId}
 use Rattle.model.specs.Calls.{Notice, Effect}
 use Rattle.model.specs.State.{Map, Pending, Queue, SyncState, with_aliases}
 use Rattle.model.specs.Limits.{document01}
-use Rattle.model.specs.Maps.{when◌then◌else◌, same_text, by_name, insert, map, filter, is_empty}
+use Rattle.model.specs.Edits.{Operation}
+use Rattle.model.specs.Maps.{is_some_and, when◌then◌else◌, same_text, by_name, insert, map, filter, is_empty}
 use Rattle.model.specs.Machine.{Machine, Run, ok, with_state, within, tell, set_aliases, queue_of, set_queue, set_edits}
 use Rattle.model.specs.Sync.{is_create, move_to, move_behind, remap, start_edit, start_queue}
 use Rattle.model.proofs.Tables.{same_self, by_name_same, name_order}
 use Rattle.state.specs.Setters.{with_edits}
 use Rattle.state.specs.Contract.{Keeps, HasState, Reads, Edits, Tries}
 use Rattle.waiting.specs.Queues.{queue, put_queue, renamed, nth, moved}
-use Rattle.waiting.specs.Reading.{operation_case_of}
+use Rattle.waiting.specs.declared.readers.OperationCase.{OperationCase}
+use Rattle.waiting.specs.declared.readers.OperationCase.TheVariants as Case
+use Rattle.waiting.specs.Reading.{case_of, operation_case_of}
 use Rattle.waiting.proofs.Bridge.{queue_is, set_queue_is}
 use Rattle.waiting.proofs.Splices.{rows_count}
 use Rattle.machine.specs.declared.Progress.{Progress}
@@ -113,16 +116,33 @@ module _ (from to : ResourceId) (d : by_name from to ≡ Ordering.eq → ⊥) (d
 
 -- ---- the functions
 
-pub one_stays : {from to : ResourceId} {w : List ℕ} {j : ℕ} {c : ℕ} → Reads (λ s. operation_case_of (nth j (queue from s))) w c → c ≡ 0 → MovesOne from j to w (j + 1) w
+-- whether a case is that of a create
+abbrev pub case_creates : Option OperationCase → Bool
+case_creates None = false
+case_creates (Some Case.Create) = true
+case_creates (Some Case.Update) = false
+case_creates (Some Case.Delete) = false
+
+stays_by : (x : Option Pending) (b : Bool) → b ≡ case_creates (operation_case_of x) → is_some_and (λ p. is_create p.edit.operation) x ≡ b
+unfolding operation_case_of is_some_and is_create
+stays_by None b e = sym e
+stays_by (Some p) b e = go p.edit.operation b e
+  where
+    go : (o : Operation) (b : Bool) → b ≡ case_creates (Some (case_of o)) → is_create o ≡ b
+    go (Operation.Create event) b e = sym e
+    go (Operation.Update base ours) b e = sym e
+    go Operation.Delete b e = sym e
+
+pub one_stays : {from to : ResourceId} {w : List ℕ} {j : ℕ} {c : Option OperationCase} → Reads (λ s. operation_case_of (nth j (queue from s))) w c → true ≡ case_creates c → MovesOne from j to w (j + 1) w
 unfolding stays_at one_moved place_after when◌then◌else◌
 one_stays {from} {to} {w} {j} {c} R z =
-    let t : (s : SyncState) → Keeps s w → stays_at from j s ≡ true = λ s h. eq-eqb (operation_case_of (nth j (queue from s))) 0 (sym (R.is s h) ∙ z) in
+    let t : (s : SyncState) → Keeps s w → stays_at from j s ≡ true = λ s h. stays_by (nth j (queue from s)) true (z ∙ ap case_creates (R.is s h)) in
     record { next = λ s h. rw (t s h); makes = λ s h. rw (t s h) h }
 
-pub one_moves : {from to : ResourceId} {w w' : List ℕ} {j : ℕ} {c : ℕ} → Reads (λ s. operation_case_of (nth j (queue from s))) w c → (c ≡ 0 → ⊥) → Edits (moved from j to) w w' → MovesOne from j to w j w'
+pub one_moves : {from to : ResourceId} {w w' : List ℕ} {j : ℕ} {c : Option OperationCase} → Reads (λ s. operation_case_of (nth j (queue from s))) w c → false ≡ case_creates c → Edits (moved from j to) w w' → MovesOne from j to w j w'
 unfolding stays_at one_moved place_after when◌then◌else◌
 one_moves {from} {to} {w} {j = j} R z E =
-    let t : (s : SyncState) → Keeps s w → stays_at from j s ≡ false = λ s h. ne_eqb (operation_case_of (nth j (queue from s))) 0 (λ y. z (R.is s h ∙ y)) in
+    let t : (s : SyncState) → Keeps s w → stays_at from j s ≡ false = λ s h. stays_by (nth j (queue from s)) false (z ∙ ap case_creates (R.is s h)) in
     record { next = λ s h. rw (t s h); makes = λ s h. rw (t s h) (E.makes s h) }
 
 -- no queue has more than all entries
@@ -139,8 +159,8 @@ pub record Sweeping (from to : ResourceId) (w₀ w : List ℕ) (left j : ℕ) : 
   pub low : j + left ≤ 6
   pub is : (s₀ : SyncState) → Keeps s₀ w₀ → (s : SyncState) × (Keeps s w) × (swept from to s₀ ≡ sweep from to left j s)
 
-pub sweep_start : {from to : ResourceId} {w : List ℕ} {n : ℕ} → Reads (λ s. length (queue from s)) w n → HasState w → (n ≡ 0 → ⊥) → Sweeping from to w w (n - 1) 1
-sweep_start {from} {to} {w} {n} R H z = record {
+pub sweep_start : {from to : ResourceId} {w : List ℕ} {n : ℕ} → Reads (λ s. length (queue from s)) w n → HasState w → Sweeping from to w w (n - 1) 1
+sweep_start {from} {to} {w} {n} R H = record {
   low = let l = few from R H in omega arith;
   is = λ s h. (s, h, ap (λ (k : ℕ). sweep from to (k - 1) 1 s) (sym (R.is s h)));
 }
@@ -151,7 +171,7 @@ sweep_low S z = let l = S.low in omega arith
 pub sweep_has : {from to : ResourceId} {w₀ w : List ℕ} {left j : ℕ} → HasState w₀ → Sweeping from to w₀ w left j → HasState w
 sweep_has H S = let x = S.is H.state H.keeps in record { state = x.0; keeps = x.1 }
 
-pub sweep_turn : {from to : ResourceId} {w₀ w w' : List ℕ} {left j r : ℕ} → HasState w₀ → Sweeping from to w₀ w left j → 0 < left → MovesOne from j to w r w' → Sweeping from to w₀ w' (left - 1) r
+sweep_turn : {from to : ResourceId} {w₀ w w' : List ℕ} {left j r : ℕ} → HasState w₀ → Sweeping from to w₀ w left j → 0 < left → MovesOne from j to w r w' → Sweeping from to w₀ w' (left - 1) r
 unfolding sweep place_after when◌then◌else◌
 sweep_turn {from} {to} {w₀} {w} {w'} {left} {j} {r} H S z M = record {
   low =
@@ -177,6 +197,11 @@ sweep_turn {from} {to} {w₀} {w} {w'} {left} {j} {r} H S z M = record {
     turn zero y s = absurd (omega arith)
     turn (suc k) y s = ap (λ (i : ℕ). sweep from to i (place_after from j s) (one_moved from j to s)) (let e : k ≡ suc k - 1 = omega arith in e)
 
+-- the loop counts up to n
+pub sweep_next : (from to : ResourceId) {w₀ w w' : List ℕ} (n i : ℕ) {j r : ℕ} → HasState w₀ → Sweeping from to w₀ w (n - i) j → i < n → MovesOne from j to w r w' → Sweeping from to w₀ w' (n - (i + 1)) r
+sweep_next from to {w₀} {w' = w'} n i {r = r} H S z M =
+    subst (λ (k : ℕ). Sweeping from to w₀ w' k r) (let e : n - i - 1 ≡ n - (i + 1) = omega arith in e) (sweep_turn H S (omega arith) M)
+
 pub sweep_end : {from to : ResourceId} {w₀ w : List ℕ} {left j : ℕ} → left ≤ 0 → Sweeping from to w₀ w left j → Edits (swept from to) w₀ w
 unfolding sweep
 sweep_end {from} {to} {w₀} {w} {left} {j} z S = record {
@@ -184,14 +209,6 @@ sweep_end {from} {to} {w₀} {w} {left} {j} z S = record {
       let x = S.is s₀ h in
       let e : swept from to s₀ ≡ x.0 = x.2 ∙ ap (λ (k : ℕ). sweep from to k j x.0) (let y : left ≡ 0 = omega arith in y) in
       subst (λ (s : SyncState). Keeps s w) (sym e) x.1;
-}
-
-pub sweep_none : (from to : ResourceId) {w : List ℕ} {n : ℕ} → Reads (λ s. length (queue from s)) w n → n ≡ 0 → Edits (swept from to) w w
-unfolding sweep
-sweep_none from to {w} {n} R z = record {
-  makes = λ s h.
-      let e : swept from to s ≡ s = ap (λ (k : ℕ). sweep from to k 1 s) (let l = R.is s h in let y : length (queue from s) - 1 ≡ 0 = omega arith in y) in
-      subst (λ (x : SyncState). Keeps x w) (sym e) h;
 }
 
 -- names that are not the same

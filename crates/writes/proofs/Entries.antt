@@ -1,15 +1,13 @@
 -- The bytes of a head that updates or creates are what a merge is given. Assumes nothing.
+use Rattle.std.specs.Prelude.{None, Option, Some}
 use Prim.Native.Nat.{ℕ, ◌+◌, ◌-◌, ◌≤◌}
 use native.Mathlib.Omega.{arith}
 use mathlib.Core.Path.{◌≡◌, refl, sym, ap, ◌∙◌, subst}
 use mathlib.Core.List.{List, [], ◌∷◌, ◌++◌, append_assoc, append-nil}
-use mathlib.Core.Option.{none}
 use lib.ListN.{length, take, drop, length-take, length-drop}
 use lib.Seq.{drop-drop, take_all}
 use Rattle.format.specs.Format.{Format, enum, ◌∣◌, via, ◌⊗◌}
 use Rattle.spans.specs.Bytes.{zeros}
-use Rattle.tables.specs.declared.Place.{Place}
-use Rattle.tables.specs.declared.Place.TheVariants.{Found, Missing}
 use Rattle.model.specs.Event.{NormalizedEvent, ProviderEvent}
 use Rattle.model.specs.Seam.{ResourceId}
 use Rattle.model.specs.Edits.{Operation}
@@ -101,10 +99,10 @@ module _ {r : ResourceId} {j : ℕ} {w : List ℕ} {s : SyncState} {at : ℕ} {p
     given B = record { base = base_begins; ours = ours_begins; theirs = B; role = role_begins }
 
 -- the entry that was found
-pub entry_found : (r : ResourceId) {w : List ℕ} {place : Place} {at : ℕ} → FindsEntry r 0 w place → place ≡ Found at → (s : SyncState) → Keeps s w → SomeEntryAt r 0 w s at
+pub entry_found : (r : ResourceId) {w : List ℕ} {place : Option ℕ} {at : ℕ} → FindsEntry r 0 w place → place ≡ Some at → (s : SyncState) → Keeps s w → SomeEntryAt r 0 w s at
 unfolding EntryIs
 entry_found r {w} F e s h = subst (EntryIs r 0 w s) e (F.is s h)
 
-pub no_entry : (r : ResourceId) {w : List ℕ} {place : Place} {at : ℕ} → FindsEntry r 0 w place → place ≡ Missing at → (s : SyncState) → Keeps s w → nth 0 (queue r s) ≡ none
+pub no_entry : (r : ResourceId) {w : List ℕ} {place : Option ℕ} → FindsEntry r 0 w place → place ≡ None → (s : SyncState) → Keeps s w → nth 0 (queue r s) ≡ None
 unfolding EntryIs
 no_entry r {w} F e s h = subst (EntryIs r 0 w s) e (F.is s h)

@@ -1,8 +1,9 @@
 -- Two inserts into a map. Assumes nothing.
+use Rattle.std.specs.Prelude.{Some, None}
+use Rattle.format.proofs.Options.{Some-injective, None-ne-Some}
 use Prim.Native.Nat.{Ordering}
 use mathlib.Core.Path.{◌≡◌, refl, sym, ap, ap₂, ◌∙◌, subst}
 use mathlib.Core.List.{[], ◌∷◌}
-use mathlib.Core.Option.{none, some, some-injective, none-ne-some}
 use Rattle.model.specs.State.{Map}
 use Rattle.model.specs.Maps.{by, get, insert}
 use mathlib.Core.Bool.{true, false}
@@ -34,14 +35,14 @@ module _ {K : Type 0} (order : K → K → Ordering) (laws : Order order) {A : T
       (λ h c. rw (laws.self k)) (λ h c. rw (laws.self k)) (λ h c. rw (h, insert_over k a b m)) refl
 
   -- what is there already
-  pub insert_there : (k : K) (a : A) (m : Map K A) → get order k m ≡ some a → insert order k a m ≡ m
+  pub insert_there : (k : K) (a : A) (m : Map K A) → get order k m ≡ Some a → insert order k a m ≡ m
   unfolding insert get by
-  insert_there k a [] g = absurd (none-ne-some a g)
+  insert_there k a [] g = absurd (None-ne-Some a g)
   insert_there k a (e ∷ m) g =
-      ordering_cases (λ o. order k e.0 ≡ o → by o none (some e.1) (get order k m) ≡ some a → by o ((k, a) ∷ e ∷ m) ((k, a) ∷ m) (e ∷ insert order k a m) ≡ e ∷ m)
+      ordering_cases (λ o. order k e.0 ≡ o → by o None (Some e.1) (get order k m) ≡ Some a → by o ((k, a) ∷ e ∷ m) ((k, a) ∷ m) (e ∷ insert order k a m) ≡ e ∷ m)
       (order k e.0)
-      (λ h c g. absurd (none-ne-some a g))
-      (λ h c g. ap₂ (λ (x : K) (y : A). (x, y) ∷ m) (laws.same k e.0 h) (sym (some-injective e.1 a g)))
+      (λ h c g. absurd (None-ne-Some a g))
+      (λ h c g. ap₂ (λ (x : K) (y : A). (x, y) ∷ m) (laws.same k e.0 h) (sym (Some-injective e.1 a g)))
       (λ h c g. ap (λ (x : Map K A). e ∷ x) (insert_there k a m g)) refl g
 
   -- where j is less than k

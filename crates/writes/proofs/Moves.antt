@@ -1,23 +1,22 @@
 -- Moving one entry at a time is the definition's filter. Assumes nothing.
+use Rattle.std.specs.Prelude.{Option, Some, None}
 use Prim.Native.Nat.{Ordering}
 use Prim.Native.Nat.{ℕ, suc, ◌+◌}
 use native.Mathlib.Omega.{arith}
 use mathlib.Core.Path.{◌≡◌, refl, sym, ap, ap₂, ◌∙◌}
 use mathlib.Core.List.{[], ◌∷◌, ◌++◌, append_assoc, append-nil}
-use mathlib.Core.Option.{Option, none, some}
 use mathlib.Core.Bool.{Bool, true, false, not}
 use lib.Dec.{eqb}
 use lib.ListN.{length, length-append}
 use Rattle.model.specs.Seam.{ResourceId}
 use Rattle.model.specs.Edits.{Operation}
 use Rattle.model.specs.State.{Map, Pending, Queue, SyncState}
-use Rattle.model.specs.Maps.{when◌then◌else◌, by_name, get, insert, map, filter}
+use Rattle.model.specs.Maps.{is_some_and, when◌then◌else◌, by_name, get, insert, map, filter}
 use Rattle.model.specs.Machine.{match◌none:◌some:◌}
 use Rattle.model.specs.Sync.{is_create}
 use Rattle.model.proofs.Tables.{name_order, get_insert, get_insert_other}
 use Rattle.state.specs.Setters.{with_edits}
 use Rattle.waiting.specs.Queues.{queue_in, put_in, queue, put_queue, nth, without, renamed, joined, moved}
-use Rattle.waiting.specs.Reading.{case_of, operation_case_of}
 use Rattle.writes.specs.Moves.{stays_at, one_moved, place_after, sweep}
 use Rattle.writes.proofs.Inserts.{insert_over, insert_swap}
 
@@ -26,13 +25,7 @@ use Rattle.writes.proofs.Inserts.{insert_over, insert_swap}
 abbrev creates : Pending → Bool
 creates p = is_create p.edit.operation
 
-case_creates : (o : Operation) → eqb (case_of o) 0 ≡ is_create o
-unfolding is_create
-case_creates (Operation.Create e) = refl
-case_creates (Operation.Update b o) = refl
-case_creates Operation.Delete = refl
-
-nth_mid : (K : Queue) (x : Pending) (R : Queue) → nth (length K) (K ++ (x ∷ R)) ≡ some x
+nth_mid : (K : Queue) (x : Pending) (R : Queue) → nth (length K) (K ++ (x ∷ R)) ≡ Some x
 unfolding nth
 nth_mid [] x R = refl
 nth_mid (y ∷ K) x R = nth_mid K x R
@@ -57,13 +50,13 @@ unfolding put_in
 put_some r [] x t m = refl
 put_some r (y ∷ q) x t m = refl
 
-pub queue_there : (r : ResourceId) (p : Pending) (q : Queue) (m : Map ResourceId Queue) → queue_in r m ≡ p ∷ q → get by_name r m ≡ some (p ∷ q)
+pub queue_there : (r : ResourceId) (p : Pending) (q : Queue) (m : Map ResourceId Queue) → queue_in r m ≡ p ∷ q → get by_name r m ≡ Some (p ∷ q)
 unfolding queue_in match◌none:◌some:◌
 queue_there r p q m e = go (get by_name r m) e
   where
-    go : (o : Option Queue) → (match o none: [] some: (λ q. q)) ≡ p ∷ q → o ≡ some (p ∷ q)
-    go none e = let z : ◌≡◌ {A = ℕ} 0 1 = cc in absurd (omega arith)
-    go (some x) e = ap some e
+    go : (o : Option Queue) → (match o none: [] some: (λ q. q)) ≡ p ∷ q → o ≡ Some (p ∷ q)
+    go None e = let z : ◌≡◌ {A = ℕ} 0 1 = cc in absurd (omega arith)
+    go (Some x) e = ap Some e
 
 module _ (from to : ResourceId) (d : by_name from to ≡ Ordering.eq → ⊥) (d' : by_name to from ≡ Ordering.eq → ⊥) (p : Pending) (m : Map ResourceId Queue) where
   abbrev T : Queue
@@ -115,13 +108,13 @@ module _ (from to : ResourceId) (d : by_name from to ≡ Ordering.eq → ⊥) (d
     unfoldable pub at_form : Queue → Queue → Queue → SyncState
     at_form K M R = with_edits (form K M R) s
 
-    found : (K M : Queue) (x : Pending) (R : Queue) → nth (suc (length K)) (queue from (at_form K M (x ∷ R))) ≡ some x
+    found : (K M : Queue) (x : Pending) (R : Queue) → nth (suc (length K)) (queue from (at_form K M (x ∷ R))) ≡ Some x
     unfolding nth at_form
     found K M x R = ap (nth (suc (length K))) (form_from K M (x ∷ R)) ∙ nth_mid K x R
 
     stays_is : (K M : Queue) (x : Pending) (R : Queue) → stays_at from (suc (length K)) (at_form K M (x ∷ R)) ≡ creates x
-    unfolding stays_at operation_case_of
-    stays_is K M x R = ap (λ (o : Option Pending). eqb (operation_case_of o) 0) (found K M x R) ∙ case_creates x.edit.operation
+    unfolding stays_at is_some_and
+    stays_is K M x R = ap (is_some_and creates) (found K M x R)
 
     moved_is : (K M : Queue) (x : Pending) (R : Queue) → moved from (suc (length K)) to (at_form K M (x ∷ R)) ≡ at_form K (M ++ (renamed to x ∷ [])) R
     unfolding moved match◌none:◌some:◌ put_in without at_form

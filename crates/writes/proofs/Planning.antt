@@ -1,14 +1,13 @@
 -- `plan` and `plan_update`, branch by branch. Assumes nothing.
+use Rattle.std.specs.Prelude.{Option, Some, None}
+use Rattle.format.proofs.Options.{Some-injective, None-ne-Some}
 use Prim.Native.Nat.{ℕ, ◌+◌, ◌≤◌, ◌<◌}
 use native.Mathlib.Omega.{arith}
 use mathlib.Core.Path.{◌≡◌, refl, sym, ap, ◌∙◌, subst}
 use mathlib.Core.List.{List}
-use mathlib.Core.Option.{Option, none, some, some-injective, none-ne-some}
 use mathlib.Core.Bool.{Bool, true, false}
 use lib.ListN.{length}
 use borrow.Author.Tests.{le-leb, lt-leb}
-use Rattle.tables.specs.declared.Place.{Place}
-use Rattle.tables.specs.declared.Place.TheVariants.{Found, Missing}
 use Rattle.model.specs.Event.{NormalizedEvent, ProviderEvent}
 use Rattle.model.specs.Parts.{Role, MergeOutcome}
 use Rattle.model.specs.Seam.{ResourceId, Request, resource_of}
@@ -28,6 +27,8 @@ use Rattle.merge.specs.Given.{Begins}
 use Rattle.merge.proofs.Room.{event_fits}
 use Rattle.waiting.specs.Queues.{queue, put_queue, nth}
 use Rattle.waiting.specs.Entries.{SomeEntryAt, FindsEntry}
+use Rattle.waiting.specs.declared.readers.OperationCase.{OperationCase}
+use Rattle.waiting.specs.declared.readers.OperationCase.TheVariants as Case
 use Rattle.waiting.specs.Reading.{case_of, operation_case_of}
 use Rattle.waiting.proofs.Bridge.{queue_is, head_is, plan_is, set_queue_is}
 use Rattle.machine.specs.declared.Progress.{Progress}
@@ -58,7 +59,7 @@ module _ (r : ResourceId) {w o w' o' : List ℕ} {p q : Progress} (t : ProviderE
   unfolding send_merged when◌then◌else◌
   merge_writes c d = runs.is (send_merged r t merged) (λ m. sym (rw (sym e ∙ c))) d
 
-  pub merge_ends : b ≡ false → Does (finish r none) w o p q w' o' → Does (send_merged r t merged) w o p q w' o'
+  pub merge_ends : b ≡ false → Does (finish r None) w o p q w' o' → Does (send_merged r t merged) w o p q w' o'
   unfolding send_merged when◌then◌else◌
   merge_ends c d = runs.is (send_merged r t merged) (λ m. sym (rw (sym e ∙ c))) d
 
@@ -95,38 +96,42 @@ merged_is w at {n = n} {b} {u} {t} {by} G l F e =
 pub begins_as : {s : List ℕ} (t : ProviderEvent) {u : ProviderEvent} → s ≡ event_f.enc t → Begins event_f (event_f.enc t) u → Begins event_f s u
 begins_as t e B = record { fits = B.fits; rest = B.rest; bytes = e ∙ B.bytes }
 
-pub head_case : (r : ResourceId) {w : List ℕ} {c k : ℕ} → HeadCase r w c → c ≡ k → HeadCase r w k
+pub head_case : (r : ResourceId) {w : List ℕ} {c k : Option OperationCase} → HeadCase r w c → c ≡ k → HeadCase r w k
 head_case r {w} C e = subst (HeadCase r w) e C
 
 -- ---- the head
 
-head_of : (r : ResourceId) {w : List ℕ} {c : ℕ} (H : HasState w) → HeadCase r w c → (c ≡ 3 → ⊥) → (p : Pending) × (Reads (λ s. nth 0 (queue r s)) w (some p)) × (c ≡ case_of p.edit.operation)
+head_of : (r : ResourceId) {w : List ℕ} (k : OperationCase) (H : HasState w) → HeadCase r w (Some k) → (p : Pending) × (Reads (λ s. nth 0 (queue r s)) w (Some p)) × (k ≡ case_of p.edit.operation)
 unfolding operation_case_of
-head_of r {w} {c} H C z = go (nth 0 (queue r H.state)) (reads_any (λ s. nth 0 (queue r s)) H) (C.is H.state H.keeps)
+head_of r {w} k H C = go (nth 0 (queue r H.state)) (reads_any (λ s. nth 0 (queue r s)) H) (C.is H.state H.keeps)
   where
-    go : (x : Option Pending) → Reads (λ s. nth 0 (queue r s)) w x → c ≡ operation_case_of x → (p : Pending) × (Reads (λ s. nth 0 (queue r s)) w (some p)) × (c ≡ case_of p.edit.operation)
-    go none X e = absurd (z e)
-    go (some p) X e = (p, X, e)
+    go : (x : Option Pending) → Reads (λ s. nth 0 (queue r s)) w x → Some k ≡ operation_case_of x → (p : Pending) × (Reads (λ s. nth 0 (queue r s)) w (Some p)) × (k ≡ case_of p.edit.operation)
+    go None X e = absurd (None-ne-Some k (sym e))
+    go (Some p) X e = (p, X, Some-injective k (case_of p.edit.operation) e)
 
-create_op : (o : Operation) → 0 ≡ case_of o → (e : ProviderEvent) × (o ≡ Operation.Create e)
+-- cases told apart by a number
+abbrev case_number : OperationCase → ℕ
+case_number Case.Create = 0
+case_number Case.Update = 1
+case_number Case.Delete = 2
+
+no_case : {a b : OperationCase} → a ≡ b → (case_number a ≡ case_number b → ⊥) → ⊥
+no_case e k = k (ap case_number e)
+
+create_op : (o : Operation) → Case.Create ≡ case_of o → (e : ProviderEvent) × (o ≡ Operation.Create e)
 create_op (Operation.Create e) z = (e, refl)
-create_op (Operation.Update b u) z = absurd (omega arith)
-create_op Operation.Delete z = absurd (omega arith)
+create_op (Operation.Update b u) z = absurd (no_case z (λ n. omega arith))
+create_op Operation.Delete z = absurd (no_case z (λ n. omega arith))
 
-update_op : (o : Operation) → 1 ≡ case_of o → (b : NormalizedEvent) × (u : NormalizedEvent) × (o ≡ Operation.Update b u)
-update_op (Operation.Create e) z = absurd (omega arith)
+update_op : (o : Operation) → Case.Update ≡ case_of o → (b : NormalizedEvent) × (u : NormalizedEvent) × (o ≡ Operation.Update b u)
+update_op (Operation.Create e) z = absurd (no_case z (λ n. omega arith))
 update_op (Operation.Update b u) z = (b, u, refl)
-update_op Operation.Delete z = absurd (omega arith)
+update_op Operation.Delete z = absurd (no_case z (λ n. omega arith))
 
-delete_op : (o : Operation) → 2 ≡ case_of o → o ≡ Operation.Delete
-delete_op (Operation.Create e) z = absurd (omega arith)
-delete_op (Operation.Update b u) z = absurd (omega arith)
+delete_op : (o : Operation) → Case.Delete ≡ case_of o → o ≡ Operation.Delete
+delete_op (Operation.Create e) z = absurd (no_case z (λ n. omega arith))
+delete_op (Operation.Update b u) z = absurd (no_case z (λ n. omega arith))
 delete_op Operation.Delete z = refl
-
-other_op : (o : Operation) (c : ℕ) → c ≡ case_of o → (c ≡ 0 → ⊥) → (c ≡ 1 → ⊥) → (c ≡ 2 → ⊥) → ⊥
-other_op (Operation.Create e) c z x y v = x z
-other_op (Operation.Update b u) c z x y v = y z
-other_op Operation.Delete c z x y v = v z
 
 abbrev on_front : ResourceId → Option ProviderEvent → Option Pending → Machine → Run
 on_front r th x m = match x none: ok m some: (λ e. plan r e e.edit.operation th m)
@@ -136,52 +141,52 @@ module _ (r : ResourceId) {w o w' o' : List ℕ} {p q : Progress} where
   unfolding plan_head
   plan_as th x X d = runs.is_held (plan_head r th) (λ m h. ap (λ (y : Option Pending). on_front r th y m) (X.is m.state h.keeps ∙ sym (head_is r m))) d
 
-  plan_op : (th : Option ProviderEvent) (e : Pending) (a : Operation) → Reads (λ s. nth 0 (queue r s)) w (some e) → e.edit.operation ≡ a → Does (plan r e a th) w o p q w' o' → Does (plan_head r th) w o p q w' o'
+  plan_op : (th : Option ProviderEvent) (e : Pending) (a : Operation) → Reads (λ s. nth 0 (queue r s)) w (Some e) → e.edit.operation ≡ a → Does (plan r e a th) w o p q w' o' → Does (plan_head r th) w o p q w' o'
   unfolding match◌none:◌some:◌
-  plan_op th e a X k d = plan_as th (some e) X (runs.is (on_front r th (some e)) (λ m. ap (λ (b : Operation). plan r e b th m) (sym k)) d)
+  plan_op th e a X k d = plan_as th (Some e) X (runs.is (on_front r th (Some e)) (λ m. ap (λ (b : Operation). plan r e b th m) (sym k)) d)
 
-pub plan_nothing : (r : ResourceId) {w o : List ℕ} {p : Progress} (th : Option ProviderEvent) {c : ℕ} → HasState w → HeadCase r w c → (c ≡ 0 → ⊥) → (c ≡ 1 → ⊥) → (c ≡ 2 → ⊥) → Does (plan_head r th) w o p p w o
+pub plan_nothing : (r : ResourceId) {w o : List ℕ} {p : Progress} (th : Option ProviderEvent) → HasState w → HeadCase r w None → Does (plan_head r th) w o p p w o
 unfolding operation_case_of match◌none:◌some:◌
-plan_nothing r {w} {o} {p} th {c} H C x y v = go (nth 0 (queue r H.state)) (reads_any (λ s. nth 0 (queue r s)) H) (C.is H.state H.keeps)
+plan_nothing r {w} {o} {p} th H C = go (nth 0 (queue r H.state)) (reads_any (λ s. nth 0 (queue r s)) H) (C.is H.state H.keeps)
   where
-    go : (u : Option Pending) → Reads (λ s. nth 0 (queue r s)) w u → c ≡ operation_case_of u → Does (plan_head r th) w o p p w o
-    go none X e = plan_as r th none X runs.nothing
-    go (some a) X e = absurd (other_op a.edit.operation c e x y v)
+    go : (u : Option Pending) → Reads (λ s. nth 0 (queue r s)) w u → None ≡ operation_case_of u → Does (plan_head r th) w o p p w o
+    go None X e = plan_as r th None X runs.nothing
+    go (Some a) X e = absurd (None-ne-Some (case_of a.edit.operation) e)
 
-pub plan_missing : (r : ResourceId) {w o : List ℕ} {p : Progress} {place : Place} {at : ℕ} (th : Option ProviderEvent) → FindsEntry r 0 w place → place ≡ Missing at → Does (plan_head r th) w o p p w o
+pub plan_missing : (r : ResourceId) {w o : List ℕ} {p : Progress} {place : Option ℕ} (th : Option ProviderEvent) → FindsEntry r 0 w place → place ≡ None → Does (plan_head r th) w o p p w o
 unfolding match◌none:◌some:◌
-plan_missing r th F e = plan_as r th none (record { is = λ s h. sym (no_entry r F e s h) }) runs.nothing
+plan_missing r th F e = plan_as r th None (record { is = λ s h. sym (no_entry r F e s h) }) runs.nothing
 
 -- ---- a delete
 
-module _ (r : ResourceId) {w : List ℕ} {c : ℕ} (H : HasState w) (C : HeadCase r w c) (z : c ≡ 2) where
-  abbrev deletes : (x : Pending) × (Reads (λ s. nth 0 (queue r s)) w (some x)) × (c ≡ case_of x.edit.operation)
-  deletes = head_of r H C (λ y. let u : 2 ≡ 3 = sym z ∙ y in omega arith)
+module _ (r : ResourceId) {w : List ℕ} (H : HasState w) (C : HeadCase r w (Some Case.Delete)) where
+  abbrev deletes : (x : Pending) × (Reads (λ s. nth 0 (queue r s)) w (Some x)) × (Case.Delete ≡ case_of x.edit.operation)
+  deletes = head_of r Case.Delete H C
 
-  pub plan_deletes : {o w' o' : List ℕ} {p q : Progress} (t : ProviderEvent) → Does (request (Purpose.EditWrite r) (Request.Delete r t.revision)) w o p q w' o' → Does (plan_head r (some t)) w o p q w' o'
+  pub plan_deletes : {o w' o' : List ℕ} {p q : Progress} (t : ProviderEvent) → Does (request (Purpose.EditWrite r) (Request.Delete r t.revision)) w o p q w' o' → Does (plan_head r (Some t)) w o p q w' o'
   unfolding plan
-  plan_deletes t d = plan_op r (some t) deletes.0 Operation.Delete deletes.1 (delete_op deletes.0.edit.operation (sym z ∙ deletes.2)) (runs.is (plan r deletes.0 Operation.Delete (some t)) (λ m. refl) d)
+  plan_deletes t d = plan_op r (Some t) deletes.0 Operation.Delete deletes.1 (delete_op deletes.0.edit.operation deletes.2) (runs.is (plan r deletes.0 Operation.Delete (Some t)) (λ m. refl) d)
 
-  pub delete_gone : {o w' o' : List ℕ} {p q : Progress} → Does (finish r none) w o p q w' o' → Does (plan_head r none) w o p q w' o'
+  pub delete_gone : {o w' o' : List ℕ} {p q : Progress} → Does (finish r None) w o p q w' o' → Does (plan_head r None) w o p q w' o'
   unfolding plan
-  delete_gone d = plan_op r none deletes.0 Operation.Delete deletes.1 (delete_op deletes.0.edit.operation (sym z ∙ deletes.2)) (runs.is (plan r deletes.0 Operation.Delete none) (λ m. refl) d)
+  delete_gone d = plan_op r None deletes.0 Operation.Delete deletes.1 (delete_op deletes.0.edit.operation deletes.2) (runs.is (plan r deletes.0 Operation.Delete None) (λ m. refl) d)
 
 -- ---- an update
 
-pub update_gone : (r : ResourceId) {w o w' o' : List ℕ} {p q : Progress} {c : ℕ} (H : HasState w) → HeadCase r w c → c ≡ 1 → Does (finish r (some Rejection.Gone)) w o p q w' o' → Does (plan_head r none) w o p q w' o'
+pub update_gone : (r : ResourceId) {w o w' o' : List ℕ} {p q : Progress} (H : HasState w) → HeadCase r w (Some Case.Update) → Does (finish r (Some Rejection.Gone)) w o p q w' o' → Does (plan_head r None) w o p q w' o'
 unfolding plan
-update_gone r H C z d =
-    let h = head_of r H C (λ y. let u : 1 ≡ 3 = sym z ∙ y in omega arith) in
-    let k = update_op h.0.edit.operation (sym z ∙ h.2) in
-    plan_op r none h.0 (Operation.Update k.0 k.1) h.1 k.2 (runs.is (plan r h.0 (Operation.Update k.0 k.1) none) (λ m. refl) d)
+update_gone r H C d =
+    let h = head_of r Case.Update H C in
+    let k = update_op h.0.edit.operation h.2 in
+    plan_op r None h.0 (Operation.Update k.0 k.1) h.1 k.2 (runs.is (plan r h.0 (Operation.Update k.0 k.1) None) (λ m. refl) d)
 
-module _ (r : ResourceId) {w : List ℕ} {place : Place} (at : ℕ) (H : HasState w) (C : HeadCase r w 1) (F : FindsEntry r 0 w place) (f : place ≡ Found at) where
+module _ (r : ResourceId) {w : List ℕ} {place : Option ℕ} (at : ℕ) (H : HasState w) (C : HeadCase r w (Some Case.Update)) (F : FindsEntry r 0 w place) (f : place ≡ Some at) where
   abbrev entry : SomeEntryAt r 0 w H.state at
   entry = entry_found r F f H.state H.keeps
 
   update_is : (b : NormalizedEvent) × (u : NormalizedEvent) × (entry.entry.edit.operation ≡ Operation.Update b u)
   unfolding operation_case_of
-  update_is = update_op entry.entry.edit.operation (C.is H.state H.keeps ∙ ap operation_case_of entry.is.got)
+  update_is = update_op entry.entry.edit.operation (Some-injective Case.Update (case_of entry.entry.edit.operation) (C.is H.state H.keeps ∙ ap operation_case_of entry.is.got))
 
   pub entry_room : at + 5940 ≤ 55643
   entry_room = entry.is.room
@@ -196,54 +201,54 @@ module _ (r : ResourceId) {w : List ℕ} {place : Place} (at : ℕ) (H : HasStat
   }
 
   pub plan_updates : {th o w' o' : List ℕ} {p q : Progress} → ((b u : NormalizedEvent) (t : ProviderEvent) (by : Role) → GivenAt w at th b u t by → Does (plan_update r by b u t) w o p q w' o')
-      → (t : ProviderEvent) → event_f.Ok t → th ≡ event_f.enc t → Does (plan_head r (some t)) w o p q w' o'
+      → (t : ProviderEvent) → event_f.Ok t → th ≡ event_f.enc t → Does (plan_head r (Some t)) w o p q w' o'
   unfolding plan
   plan_updates D t k e =
       let x : Pending = entry.entry in
       let b : NormalizedEvent = update_is.0 in
       let u : NormalizedEvent = update_is.1 in
-      plan_op r (some t) entry.entry (Operation.Update update_is.0 update_is.1)
+      plan_op r (Some t) entry.entry (Operation.Update update_is.0 update_is.1)
       (record { is = λ s h. sym entry.is.got ∙ (reads_any (λ s. nth 0 (queue r s)) H).is s h }) update_is.2
-      (runs.is (plan r entry.entry (Operation.Update update_is.0 update_is.1) (some t)) (λ m. refl)
+      (runs.is (plan r entry.entry (Operation.Update update_is.0 update_is.1) (Some t)) (λ m. refl)
       (D update_is.0 update_is.1 t entry.entry.edit.role (given entry.is H.keeps update_is.0 update_is.1 update_is.2 (begins_alone event_f t k e))))
 
 -- ---- a create
 
-created_op : (x : Option Pending) (e : ProviderEvent) → some e ≡ created x → (p : Pending) × (x ≡ some p) × (p.edit.operation ≡ Operation.Create e)
+created_op : (x : Option Pending) (e : ProviderEvent) → Some e ≡ created x → (p : Pending) × (x ≡ Some p) × (p.edit.operation ≡ Operation.Create e)
 unfolding created created_by
-created_op none e k = absurd (none-ne-some e (sym k))
-created_op (some p) e k = (p, refl, go p.edit.operation k)
+created_op None e k = absurd (None-ne-Some e (sym k))
+created_op (Some p) e k = (p, refl, go p.edit.operation k)
   where
-    go : (o : Operation) → some e ≡ created_by o → o ≡ Operation.Create e
-    go (Operation.Create f) k = ap Operation.Create (sym (some-injective e f k))
-    go (Operation.Update b u) k = absurd (none-ne-some e (sym k))
-    go Operation.Delete k = absurd (none-ne-some e (sym k))
+    go : (o : Operation) → Some e ≡ created_by o → o ≡ Operation.Create e
+    go (Operation.Create f) k = ap Operation.Create (sym (Some-injective e f k))
+    go (Operation.Update b u) k = absurd (None-ne-Some e (sym k))
+    go Operation.Delete k = absurd (None-ne-Some e (sym k))
 
-module _ (r : ResourceId) {w : List ℕ} {place : Place} (at : ℕ) (H : HasState w) (F : FindsEntry r 0 w place) where
-  pub found_room : place ≡ Found at → at + 5940 ≤ 55643
+module _ (r : ResourceId) {w : List ℕ} {place : Option ℕ} (H : HasState w) (F : FindsEntry r 0 w place) where
+  pub found_room : {at : ℕ} → place ≡ Some at → at + 5940 ≤ 55643
   found_room f = (entry_found r F f H.state H.keeps).is.room
 
-  pub fields_found : place ≡ Found at → {th : List ℕ} {b : Bool} → ((e t : ProviderEvent) → Begins event_f (operation_part w at) e → Begins event_f th t → b ≡ same fields_f t.fields e.fields)
-      → (e t : ProviderEvent) → Reads (λ s. created (nth 0 (queue r s))) w (some e) → Begins event_f th t → b ≡ same fields_f t.fields e.fields
-  fields_found f D e t R B =
+  pub fields_found : (at : ℕ) → place ≡ Some at → {th : List ℕ} {b : Bool} → ((e t : ProviderEvent) → Begins event_f (operation_part w at) e → Begins event_f th t → b ≡ same fields_f t.fields e.fields)
+      → (e t : ProviderEvent) → Reads (λ s. created (nth 0 (queue r s))) w (Some e) → Begins event_f th t → b ≡ same fields_f t.fields e.fields
+  fields_found at f D e t R B =
       let E = entry_found r F f H.state H.keeps in
-      let k = created_op (some E.entry) e (R.is H.state H.keeps ∙ ap created E.is.got) in
-      let g : E.entry.edit.operation ≡ Operation.Create e = ap (λ (x : Pending). x.edit.operation) (some-injective E.entry k.0 k.1) ∙ k.2 in
+      let k = created_op (Some E.entry) e (R.is H.state H.keeps ∙ ap created E.is.got) in
+      let g : E.entry.edit.operation ≡ Operation.Create e = ap (λ (x : Pending). x.edit.operation) (Some-injective E.entry k.0 k.1) ∙ k.2 in
       D e t (event_begins E.is H.keeps e g) B
 
-  pub fields_missing : place ≡ Missing at → {th : List ℕ} {b : Bool} → (e t : ProviderEvent) → Reads (λ s. created (nth 0 (queue r s))) w (some e) → Begins event_f th t → b ≡ same fields_f t.fields e.fields
+  pub fields_missing : place ≡ None → {th : List ℕ} {b : Bool} → (e t : ProviderEvent) → Reads (λ s. created (nth 0 (queue r s))) w (Some e) → Begins event_f th t → b ≡ same fields_f t.fields e.fields
   fields_missing f e t R B =
       let k = created_op (nth 0 (queue r H.state)) e (R.is H.state H.keeps) in
-      absurd (none-ne-some k.0 (sym (no_entry r F f H.state H.keeps) ∙ k.1))
+      absurd (None-ne-Some k.0 (sym (no_entry r F f H.state H.keeps) ∙ k.1))
 
-module _ (r : ResourceId) {w : List ℕ} {c : ℕ} (H : HasState w) (C : HeadCase r w c) (z : c ≡ 0) where
-  abbrev front : (x : Pending) × (Reads (λ s. nth 0 (queue r s)) w (some x)) × (c ≡ case_of x.edit.operation)
-  front = head_of r H C (λ y. let u : 0 ≡ 3 = sym z ∙ y in omega arith)
+module _ (r : ResourceId) {w : List ℕ} (H : HasState w) (C : HeadCase r w (Some Case.Create)) where
+  abbrev front : (x : Pending) × (Reads (λ s. nth 0 (queue r s)) w (Some x)) × (Case.Create ≡ case_of x.edit.operation)
+  front = head_of r Case.Create H C
 
   abbrev making : (e : ProviderEvent) × (front.0.edit.operation ≡ Operation.Create e)
-  making = create_op front.0.edit.operation (sym z ∙ front.2)
+  making = create_op front.0.edit.operation front.2
 
-  create_reads : Reads (λ s. created (nth 0 (queue r s))) w (some making.0)
+  create_reads : Reads (λ s. created (nth 0 (queue r s))) w (Some making.0)
   unfolding created created_by
   create_reads = record { is = λ s h. ap created_by (sym making.1) ∙ ap created (front.1.is s h) }
 
@@ -252,46 +257,46 @@ module _ (r : ResourceId) {w : List ℕ} {c : ℕ} (H : HasState w) (C : HeadCas
   keyed_is L = L.is H.state H.keeps ∙ sym (ap (is_some_and (λ p. creates_under_key p.edit.operation)) (front.1.is H.state H.keeps)) ∙ ap creates_under_key making.1
 
   module _ {b : Bool} (L : Reads (λ s. is_some_and (λ p. creates_under_key p.edit.operation) (nth 0 (queue r s))) w b) (t : ProviderEvent) where
-    pub create_remaps : b ≡ true → {o w' o' w₁ o₁ : List ℕ} {p q a : Progress} {to : ResourceId} → to ≡ resource_of t → Does (remap r to) w o p a w₁ o₁ → Does (finish r none) w₁ o₁ a q w' o' → Does (plan_head r (some t)) w o p q w' o'
+    pub create_remaps : b ≡ true → {o w' o' w₁ o₁ : List ℕ} {p q a : Progress} {to : ResourceId} → to ≡ resource_of t → Does (remap r to) w o p a w₁ o₁ → Does (finish r None) w₁ o₁ a q w' o' → Does (plan_head r (Some t)) w o p q w' o'
     unfolding plan when◌then◌else◌
     create_remaps k e d f =
         let a' : assigns_ids making.0 ≡ true = sym (keyed_is L) ∙ k in
-        plan_op r (some t) front.0 (Operation.Create making.0) front.1 making.1
-        (runs.is (plan r front.0 (Operation.Create making.0) (some t)) (λ m. sym (rw (a', ← e))) (runs.next d f))
+        plan_op r (Some t) front.0 (Operation.Create making.0) front.1 making.1
+        (runs.is (plan r front.0 (Operation.Create making.0) (Some t)) (λ m. sym (rw (a', ← e))) (runs.next d f))
 
-    module _ (k : b ≡ false) {v : Bool} (S : (e u : ProviderEvent) → Reads (λ s. created (nth 0 (queue r s))) w (some e) → Begins event_f (event_f.enc t) u → v ≡ same fields_f u.fields e.fields) (ok-t : event_f.Ok t) where
+    module _ (k : b ≡ false) {v : Bool} (S : (e u : ProviderEvent) → Reads (λ s. created (nth 0 (queue r s))) w (Some e) → Begins event_f (event_f.enc t) u → v ≡ same fields_f u.fields e.fields) (ok-t : event_f.Ok t) where
       same_is : v ≡ same fields_f t.fields making.0.fields
       same_is = S making.0 t create_reads (begins_alone event_f t ok-t refl)
 
-      pub create_same : {o w' o' : List ℕ} {p q : Progress} → v ≡ true → Does (finish r none) w o p q w' o' → Does (plan_head r (some t)) w o p q w' o'
+      pub create_same : {o w' o' : List ℕ} {p q : Progress} → v ≡ true → Does (finish r None) w o p q w' o' → Does (plan_head r (Some t)) w o p q w' o'
       unfolding plan when◌then◌else◌
       create_same y d =
           let a' : assigns_ids making.0 ≡ false = sym (keyed_is L) ∙ k in
           let s' : same fields_f t.fields making.0.fields ≡ true = sym same_is ∙ y in
-          plan_op r (some t) front.0 (Operation.Create making.0) front.1 making.1
-          (runs.is (plan r front.0 (Operation.Create making.0) (some t)) (λ m. sym (rw (a', s'))) d)
+          plan_op r (Some t) front.0 (Operation.Create making.0) front.1 making.1
+          (runs.is (plan r front.0 (Operation.Create making.0) (Some t)) (λ m. sym (rw (a', s'))) d)
 
-      pub create_differs : {o w' o' : List ℕ} {p q : Progress} → v ≡ false → Does (finish r (some Rejection.Exists)) w o p q w' o' → Does (plan_head r (some t)) w o p q w' o'
+      pub create_differs : {o w' o' : List ℕ} {p q : Progress} → v ≡ false → Does (finish r (Some Rejection.Exists)) w o p q w' o' → Does (plan_head r (Some t)) w o p q w' o'
       unfolding plan when◌then◌else◌
       create_differs y d =
           let a' : assigns_ids making.0 ≡ false = sym (keyed_is L) ∙ k in
           let s' : same fields_f t.fields making.0.fields ≡ false = sym same_is ∙ y in
-          plan_op r (some t) front.0 (Operation.Create making.0) front.1 making.1
-          (runs.is (plan r front.0 (Operation.Create making.0) (some t)) (λ m. sym (rw (a', s'))) d)
+          plan_op r (Some t) front.0 (Operation.Create making.0) front.1 making.1
+          (runs.is (plan r front.0 (Operation.Create making.0) (Some t)) (λ m. sym (rw (a', s'))) d)
 
   module _ {b : Bool} (L : Reads (λ s. is_some_and (λ p. p.collided) (nth 0 (queue r s))) w b) where
     collided_is : b ≡ front.0.collided
     unfolding is_some_and
     collided_is = L.is H.state H.keeps ∙ sym (ap (is_some_and (λ p. p.collided)) (front.1.is H.state H.keeps))
 
-    pub create_collides : {o w' o' : List ℕ} {p q : Progress} → b ≡ true → Does (finish r (some Rejection.Exists)) w o p q w' o' → Does (plan_head r none) w o p q w' o'
+    pub create_collides : {o w' o' : List ℕ} {p q : Progress} → b ≡ true → Does (finish r (Some Rejection.Exists)) w o p q w' o' → Does (plan_head r None) w o p q w' o'
     unfolding plan when◌then◌else◌
     create_collides k d =
         let c' : front.0.collided ≡ true = sym collided_is ∙ k in
-        plan_op r none front.0 (Operation.Create making.0) front.1 making.1 (runs.is (plan r front.0 (Operation.Create making.0) none) (λ m. sym (rw c')) d)
+        plan_op r None front.0 (Operation.Create making.0) front.1 making.1 (runs.is (plan r front.0 (Operation.Create making.0) None) (λ m. sym (rw c')) d)
 
-    pub create_writes : {o w' o' : List ℕ} {p q : Progress} → b ≡ false → ((e : ProviderEvent) → Reads (λ s. created (nth 0 (queue r s))) w (some e) → Does (request (Purpose.EditWrite r) (Request.Create r e)) w o p q w' o') → Does (plan_head r none) w o p q w' o'
+    pub create_writes : {o w' o' : List ℕ} {p q : Progress} → b ≡ false → ((e : ProviderEvent) → Reads (λ s. created (nth 0 (queue r s))) w (Some e) → Does (request (Purpose.EditWrite r) (Request.Create r e)) w o p q w' o') → Does (plan_head r None) w o p q w' o'
     unfolding plan when◌then◌else◌
     create_writes k D =
         let c' : front.0.collided ≡ false = sym collided_is ∙ k in
-        plan_op r none front.0 (Operation.Create making.0) front.1 making.1 (runs.is (plan r front.0 (Operation.Create making.0) none) (λ m. sym (rw c')) (D making.0 create_reads))
+        plan_op r None front.0 (Operation.Create making.0) front.1 making.1 (runs.is (plan r front.0 (Operation.Create making.0) None) (λ m. sym (rw c')) (D making.0 create_reads))

@@ -1,8 +1,8 @@
 -- Requests to write. Assumes nothing.
+use Rattle.std.specs.Prelude.{Option}
 use Prim.Native.Nat.{ℕ}
 use mathlib.Core.Path.{◌≡◌, ap}
 use mathlib.Core.List.{List}
-use mathlib.Core.Option.{Option}
 use Rattle.format.specs.Format.{option}
 use Rattle.model.specs.Event.{Text, ProviderRevision, ProviderEvent}
 use Rattle.model.specs.Seam.{Request}

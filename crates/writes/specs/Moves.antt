@@ -1,15 +1,15 @@
 -- The entries behind the head of a queue that follow their resource to another name, one at a time. Assumes nothing.
-use Rattle.std.specs.Prelude.{ℕ, zero, suc, ◌+◌, ◌-◌, ◌≡◌, List, Bool, eqb, length}
+use Rattle.std.specs.Prelude.{ℕ, zero, suc, ◌+◌, ◌-◌, ◌≡◌, List, Bool, length}
 use Rattle.model.specs.Seam.{ResourceId}
 use Rattle.model.specs.State.{SyncState}
-use Rattle.model.specs.Maps.{when◌then◌else◌}
+use Rattle.model.specs.Maps.{when◌then◌else◌, is_some_and}
+use Rattle.model.specs.Sync.{is_create}
 use Rattle.state.specs.Contract.{Keeps}
 use Rattle.waiting.specs.Queues.{queue, nth, moved}
-use Rattle.waiting.specs.Reading.{operation_case_of}
 
 -- entry j creates, and so stays
 unfoldable pub stays_at : ResourceId → ℕ → SyncState → Bool
-stays_at from j s = eqb (operation_case_of (nth j (queue from s))) 0
+stays_at from j s = is_some_and (λ p. is_create p.edit.operation) (nth j (queue from s))
 
 unfoldable pub one_moved : ResourceId → ℕ → ResourceId → SyncState → SyncState
 one_moved from j to s = when stays_at from j s then s else moved from j to s

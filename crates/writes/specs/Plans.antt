@@ -1,6 +1,5 @@
 -- What a merge of a waiting entry is planned from, by its bytes in the work buffer, and the arrays that a merge fills. Assumes nothing.
-use Rattle.std.specs.Prelude.{ℕ, ◌+◌, ◌≤◌, ◌≡◌, List, length, take}
-use Rattle.std.proofs.Math.Option.{Option, none}
+use Rattle.std.specs.Prelude.{ℕ, ◌+◌, ◌≤◌, ◌≡◌, List, length, take, Option, None}
 use Rattle.model.specs.Event.{NormalizedEvent, ProviderEvent}
 use Rattle.model.specs.Parts.{Role, MergeOutcome}
 use Rattle.model.specs.Seam.{ResourceId, Request}
@@ -11,6 +10,7 @@ use Rattle.model.specs.Formats.{fields_f}
 use Rattle.model.specs.Sync.{change_front, head, plan, finish}
 use Rattle.state.specs.Contract.{Reads}
 use Rattle.waiting.specs.Queues.{queue, put_queue, planned, nth}
+use Rattle.waiting.specs.declared.readers.OperationCase.{OperationCase}
 use Rattle.waiting.specs.Reading.{operation_case_of}
 use Rattle.frame.specs.Read.{skips, start}
 use Rattle.comparison.specs.Bytes.{span}
@@ -48,7 +48,7 @@ pub record HasGiven (w : List ℕ) (at : ℕ) (theirs : List ℕ) : Type 0 where
   pub given : GivenAt w at theirs base ours event role
 
 -- the case of the head's operation
-abbrev pub HeadCase : ResourceId → List ℕ → ℕ → Type 0
+abbrev pub HeadCase : ResourceId → List ℕ → Option OperationCase → Type 0
 HeadCase r w c = Reads (λ s. operation_case_of (nth 0 (queue r s))) w c
 
 -- `plan_update` from its merge on
@@ -56,7 +56,7 @@ unfoldable pub send_merged : ResourceId → ProviderEvent → MergeOutcome → M
 send_merged r theirs merged m =
     when merged.changed
     then request (Purpose.EditWrite r) (Request.Update r theirs.revision merged.event) m
-    else finish r none m
+    else finish r None m
 
 -- the last line of `edit_read_found`
 unfoldable pub plan_head : ResourceId → Option ProviderEvent → Machine → Run

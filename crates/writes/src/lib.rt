@@ -1,13 +1,12 @@
 // sync.rs, the writing half: planning from a read, the answers to writes, and entries that follow a resource to another name.
 #![tactic(auto)]
 
-ghost use Rattle.std.specs.Prelude.{◌≡◌, false, ◌+◌, ◌≤◌, ◌<◌, length};
-ghost use Rattle.std.proofs.Math.Option.{Option, none, some};
+ghost use Rattle.std.specs.Prelude.{◌≡◌, false, ◌+◌, ◌≤◌, ◌<◌, length, Option, Some, None};
 ghost use Rattle.format.specs.Format.{option};
 ghost use Rattle.model.specs.Event.{ProviderRevision, NormalizedEvent, ProviderEvent};
 ghost use Rattle.model.specs.Parts.{Role};
 ghost use Rattle.model.specs.Seam.{Request};
-ghost use Rattle.model.specs.State.{Purpose};
+ghost use Rattle.model.specs.State as model;
 ghost use Rattle.model.specs.Limits.{max_attendees};
 ghost use Rattle.model.specs.Formats.{same, short_text, fields_f, event_f, conflicts_f, refusals_f};
 ghost use Rattle.model.specs.Merge.{merge};
@@ -30,8 +29,8 @@ use machine::Progress;
 use names::Name;
 use pens::Pen;
 use queues::Ending;
-use state::Kind;
-use tables::Place;
+use state::Purpose;
+use waiting::OperationCase;
 
 // ---- requests
 
@@ -45,16 +44,15 @@ fn request_update(
 ) -> Progress
     requires has_state { HasState work.old }
     requires named { Named name.bytes }
-    ensures { (v : Option ProviderRevision) (e : ProviderEvent) → revision.now ≡ (option short_text).enc v → event.now ≡ event_f.enc e → Does (request (Purpose.EditWrite (name_of name.bytes)) (Request.Update (name_of name.bytes) v e)) work.old out.old p result work.new out.new }
+    ensures { (v : Option ProviderRevision) (e : ProviderEvent) → revision.now ≡ (option short_text).enc v → event.now ≡ event_f.enc e → Does (request (model.Purpose.EditWrite (name_of name.bytes)) (Request.Update (name_of name.bytes) v e)) work.old out.old p result work.new out.new }
 {
     let id = state::next_request(work);
-    let q = machine::reserve(work, p, Kind::EditWrite, name);
-    let key = name.bytes;
+    let q = machine::reserve(work, p, Purpose::EditWrite(name));
     let pen = effects::update(
         machine::pen_of(q),
         out,
         id,
-        machine::text_of(&key),
+        machine::text_of(&name.bytes),
         revision,
         event,
     );
@@ -70,118 +68,131 @@ fn request_delete(
 ) -> Progress
     requires has_state { HasState work.old }
     requires named { Named name.bytes }
-    ensures { (v : Option ProviderRevision) → revision.now ≡ (option short_text).enc v → Does (request (Purpose.EditWrite (name_of name.bytes)) (Request.Delete (name_of name.bytes) v)) work.old out.old p result work.new out.new }
+    ensures { (v : Option ProviderRevision) → revision.now ≡ (option short_text).enc v → Does (request (model.Purpose.EditWrite (name_of name.bytes)) (Request.Delete (name_of name.bytes) v)) work.old out.old p result work.new out.new }
 {
     let id = state::next_request(work);
-    let q = machine::reserve(work, p, Kind::EditWrite, name);
-    let key = name.bytes;
+    let q = machine::reserve(work, p, Purpose::EditWrite(name));
     let pen = effects::delete(
         machine::pen_of(q),
         out,
         id,
-        machine::text_of(&key),
+        machine::text_of(&name.bytes),
         revision,
     );
     machine::sent(q, pen)
 }
 
-// ---- a merge of the entry at a place of the work buffer with an encoded event
+// ---- a merge of an entry with an encoded event
 
-// The entry's operation behind its case: where it is an update, base and then ours.
-fn operation_part(work: &[u8], at: usize) -> &[u8]
-    requires { at + 5940 ≤ 55643 }
-    ensures { result.now ≡ operation_part work.now at }
-{
-    comparison::part(work, at + 67, at + 1535)
+// An entry of the work buffer, by where it stands.
+#[derive(Clone, Copy)]
+struct Entry {
+    at: usize,
+    ghost within: { at + 5940 ≤ 55643 },
 }
 
-fn ours_part(work: &[u8], at: usize) -> &[u8]
-    requires { at + 5940 ≤ 55643 }
-    ensures { result.now ≡ ours_part work.now at }
-{
-    let s = operation_part(work, at);
-    let base = Cursor { at: 0, ok: true }.skip_fields(s);
-    let from = base.at;
-    comparison::part(s, from, 1468)
-}
+impl Entry {
+    // Its operation behind its case: where it is an update, base and then ours.
+    fn operation_part(self, work: &[u8]) -> &[u8]
+        ensures { result.now ≡ operation_part work.now self.at }
+    {
+        comparison::part(work, self.at + 67, self.at + 1535)
+    }
 
-fn role_part(work: &[u8], at: usize) -> &[u8]
-    requires { at + 5940 ≤ 55643 }
-    ensures { result.now ≡ role_part work.now at }
-{
-    comparison::part(work, at + 1535, at + 1569)
-}
+    fn ours_part(self, work: &[u8]) -> &[u8]
+        ensures { result.now ≡ ours_part work.now self.at }
+    {
+        let s = self.operation_part(work);
+        let base = Cursor { at: 0, ok: true }.skip_fields(s);
+        comparison::part(s, base.at, 1468)
+    }
 
-fn merged_attendees<'a>(work: &'a [u8], at: usize, theirs: &'a [u8]) -> u8
-    requires { at + 5940 ≤ 55643 }
-    ensures { (b o : NormalizedEvent) (t : ProviderEvent) (by : Role) → GivenAt work.now at theirs.now b o t by → result ≡ length (merge b o t by).event.fields.attendees }
-{
-    merge::merged_attendees(
-        operation_part(work, at),
-        ours_part(work, at),
-        theirs,
-        role_part(work, at),
-    )
-}
+    // Kept: the part of other places than `operation_part`; places handed over would be no plainer.
+    fn role_part(self, work: &[u8]) -> &[u8]
+        ensures { result.now ≡ role_part work.now self.at }
+    {
+        comparison::part(work, self.at + 1535, self.at + 1569)
+    }
 
-// The merged event; how many bytes it takes.
-fn put_event<'a>(out: &mut [u8], work: &'a [u8], at: usize, theirs: &'a [u8]) -> usize
-    requires { (at + 5940 ≤ 55643) × (length out.old ≡ 882) }
-    ensures { (b o : NormalizedEvent) (t : ProviderEvent) (by : Role) → GivenAt work.now at theirs.now b o t by → length (merge b o t by).event.fields.attendees ≤ max_attendees → Filled out.new result (event_f.enc (merge b o t by).event) }
-{
-    let pen = merge::merged_event(
-        Pen { at: 0, ok: true },
-        out,
-        operation_part(work, at),
-        ours_part(work, at),
-        theirs,
-        role_part(work, at),
-    );
-    pen.at
-}
+    fn merged_attendees<'a>(self, work: &'a [u8], theirs: &'a [u8]) -> u8
+        ensures { (b o : NormalizedEvent) (t : ProviderEvent) (by : Role) → GivenAt work.now self.at theirs.now b o t by → result ≡ length (merge b o t by).event.fields.attendees }
+    {
+        merge::merged_attendees(
+            self.operation_part(work),
+            self.ours_part(work),
+            theirs,
+            self.role_part(work),
+        )
+    }
 
-// The merge's conflicts; how many bytes they take.
-fn put_conflicts<'a>(out: &mut [u8], work: &'a [u8], at: usize, theirs: &'a [u8]) -> usize
-    requires { (at + 5940 ≤ 55643) × (length out.old ≡ 3072) }
-    ensures { (b o : NormalizedEvent) (t : ProviderEvent) (by : Role) → GivenAt work.now at theirs.now b o t by → Filled out.new result (conflicts_f.enc (merge b o t by).conflicts) }
-{
-    let pen = merge::conflicts(
-        Pen { at: 0, ok: true },
-        out,
-        operation_part(work, at),
-        ours_part(work, at),
-        theirs,
-        role_part(work, at),
-    );
-    pen.at
-}
+    // The merged event; how many bytes it takes.
+    fn put_event<'a>(self, out: &mut [u8], work: &'a [u8], theirs: &'a [u8]) -> usize
+        requires { length out.old ≡ 882 }
+        ensures { (b o : NormalizedEvent) (t : ProviderEvent) (by : Role) → GivenAt work.now self.at theirs.now b o t by → length (merge b o t by).event.fields.attendees ≤ max_attendees → Filled out.new result (event_f.enc (merge b o t by).event) }
+    {
+        let pen = merge::merged_event(
+            Pen { at: 0, ok: true },
+            out,
+            self.operation_part(work),
+            self.ours_part(work),
+            theirs,
+            self.role_part(work),
+        );
+        pen.at
+    }
 
-// The units that it refused; how many bytes they take.
-fn put_refused<'a>(out: &mut [u8], work: &'a [u8], at: usize, theirs: &'a [u8]) -> usize
-    requires { (at + 5940 ≤ 55643) × (length out.old ≡ 1024) }
-    ensures { (b o : NormalizedEvent) (t : ProviderEvent) (by : Role) → GivenAt work.now at theirs.now b o t by → Filled out.new result (refusals_f.enc (merge b o t by).refused) }
-{
-    let pen = merge::refused(
-        Pen { at: 0, ok: true },
-        out,
-        operation_part(work, at),
-        ours_part(work, at),
-        theirs,
-        role_part(work, at),
-    );
-    pen.at
+    // The merge's conflicts; how many bytes they take.
+    // Kept: what writes them could be handed over to one function, which would have to be told what each promises.
+    fn put_conflicts<'a>(self, out: &mut [u8], work: &'a [u8], theirs: &'a [u8]) -> usize
+        requires { length out.old ≡ 3072 }
+        ensures { (b o : NormalizedEvent) (t : ProviderEvent) (by : Role) → GivenAt work.now self.at theirs.now b o t by → Filled out.new result (conflicts_f.enc (merge b o t by).conflicts) }
+    {
+        let pen = merge::conflicts(
+            Pen { at: 0, ok: true },
+            out,
+            self.operation_part(work),
+            self.ours_part(work),
+            theirs,
+            self.role_part(work),
+        );
+        pen.at
+    }
+
+    // The units that it refused; how many bytes they take.
+    // Kept: as `put_conflicts`.
+    fn put_refused<'a>(self, out: &mut [u8], work: &'a [u8], theirs: &'a [u8]) -> usize
+        requires { length out.old ≡ 1024 }
+        ensures { (b o : NormalizedEvent) (t : ProviderEvent) (by : Role) → GivenAt work.now self.at theirs.now b o t by → Filled out.new result (refusals_f.enc (merge b o t by).refused) }
+    {
+        let pen = merge::refused(
+            Pen { at: 0, ok: true },
+            out,
+            self.operation_part(work),
+            self.ours_part(work),
+            theirs,
+            self.role_part(work),
+        );
+        pen.at
+    }
+
+    // Whether the event that it creates has the fields of an encoded event.
+    fn same_fields(self, work: &[u8], theirs: &[u8]) -> bool
+        ensures { (e t : ProviderEvent) → Begins event_f (operation_part work.now self.at) e → Begins event_f theirs.now t → result ≡ same fields_f t.fields e.fields }
+    {
+        merge::fields_of(theirs) == merge::fields_of(self.operation_part(work))
+    }
 }
 
 // The merge's reports into the head of a queue.
-fn plan_head(work: &mut [u8], name: Name, at: usize, theirs: &[u8])
+fn plan_head(work: &mut [u8], name: Name, entry: Entry, theirs: &[u8])
     requires has_state { HasState work.old }
-    requires named { (Named name.bytes) × (at + 5940 ≤ 55643) }
-    ensures { (b o : NormalizedEvent) (t : ProviderEvent) (by : Role) → GivenAt work.old at theirs.now b o t by → Edits (with_merge (name_of name.bytes) (merge b o t by)) work.old work.new }
+    requires named { Named name.bytes }
+    ensures { (b o : NormalizedEvent) (t : ProviderEvent) (by : Role) → GivenAt work.old entry.at theirs.now b o t by → Edits (with_merge (name_of name.bytes) (merge b o t by)) work.old work.new }
 {
     let mut conflicts = [0u8; 3072];
-    let m = put_conflicts(&mut conflicts, work, at, theirs);
+    let m = entry.put_conflicts(&mut conflicts, work, theirs);
     let mut refused = [0u8; 1024];
-    let n = put_refused(&mut refused, work, at, theirs);
+    let n = entry.put_refused(&mut refused, work, theirs);
     let a = comparison::part(&conflicts, 0, m);
     let b = comparison::part(&refused, 0, n);
     waiting::set_plan(work, name, a, b);
@@ -193,18 +204,7 @@ fn revision_of(event: &[u8]) -> &[u8]
 {
     let from = Cursor { at: 0, ok: true }.skip_ids(event);
     let to = from.skip_option_short_text(event);
-    let start = from.at;
-    let end = to.at;
-    comparison::part(event, start, end)
-}
-
-// Whether the event that an entry creates has the fields of an encoded event.
-fn same_fields(work: &[u8], at: usize, theirs: &[u8]) -> bool
-    requires { at + 5940 ≤ 55643 }
-    ensures { (e t : ProviderEvent) → Begins event_f (operation_part work.now at) e → Begins event_f theirs.now t → result ≡ same fields_f t.fields e.fields }
-{
-    let ours = operation_part(work, at);
-    comparison::same(merge::fields_of(theirs), merge::fields_of(ours))
+    comparison::part(event, from.at, to.at)
 }
 
 // ---- SyncState::remap
@@ -215,12 +215,13 @@ fn move_one(work: &mut [u8], from: Name, j: usize, to: Name) -> usize
     requires named { (Named from.bytes) × (Named to.bytes) × (j < 6) }
     ensures { MovesOne (name_of from.bytes) j (name_of to.bytes) work.old result work.new }
 {
-    let case = waiting::operation_case(work, from, j);
-    if case == 0 {
-        return j + 1;
+    match waiting::operation_case(work, from, j) {
+        Some(OperationCase::Create) => j + 1,
+        _ => {
+            waiting::move_entry(work, from, j, to);
+            j
+        }
     }
-    waiting::move_entry(work, from, j, to);
-    j
 }
 
 // Moves the entries behind the head that do not create.
@@ -230,14 +231,9 @@ fn move_entries(work: &mut [u8], from: Name, to: Name)
     ensures { Edits (swept (name_of from.bytes) (name_of to.bytes)) work.old work.new }
 {
     let n = waiting::waiting_count(work, from);
-    if n == 0 {
-        return;
-    }
-    let mut left = n - 1;
     let mut j = 1;
-    while 0 < left {
+    for _ in 1..n {
         j = move_one(work, from, j, to);
-        left -= 1;
     }
 }
 
@@ -258,9 +254,7 @@ fn same_name(a: Name, b: Name) -> bool
     requires { (Named a.bytes) × (Named b.bytes) }
     ensures { result ≡ same_text (name_of a.bytes) (name_of b.bytes) }
 {
-    let x = a.bytes;
-    let y = b.bytes;
-    comparison::same(machine::text_of(&x), machine::text_of(&y))
+    machine::text_of(&a.bytes) == machine::text_of(&b.bytes)
 }
 
 pub fn remap(work: &mut [u8], out: &mut [u8], p: Progress, from: Name, to: Name) -> Progress
@@ -298,43 +292,37 @@ fn send_merged(
     queues::finish(work, out, p, name, Ending::Applied, b"")
 }
 
-// SyncState::on_edit_read, an update: the head at `at` is merged with the event.
+// SyncState::on_edit_read, an update: the head is merged with the event.
 fn plan_update_at(
     work: &mut [u8],
     out: &mut [u8],
     p: Progress,
     name: Name,
-    at: usize,
+    entry: Entry,
     theirs: &[u8],
 ) -> Progress
     requires has_state { HasState work.old }
-    requires named { (Named name.bytes) × (at + 5940 ≤ 55643) × (HasGiven work.old at theirs.now) }
-    ensures { (b o : NormalizedEvent) (t : ProviderEvent) (by : Role) → GivenAt work.old at theirs.now b o t by → Does (plan_update (name_of name.bytes) by b o t) work.old out.old p result work.new out.new }
+    requires named { (Named name.bytes) × (HasGiven work.old entry.at theirs.now) }
+    ensures { (b o : NormalizedEvent) (t : ProviderEvent) (by : Role) → GivenAt work.old entry.at theirs.now b o t by → Does (plan_update (name_of name.bytes) by b o t) work.old out.old p result work.new out.new }
 {
-    let n = merged_attendees(work, at, theirs);
-    if 8 < n {
+    if 8 < entry.merged_attendees(work, theirs) {
         return machine::refuse(p, 6);
     }
     let mut merged = [0u8; 882];
-    let m = put_event(&mut merged, work, at, theirs);
-    plan_head(work, name, at, theirs);
+    let m = entry.put_event(&mut merged, work, theirs);
+    plan_head(work, name, entry, theirs);
     let event = comparison::part(&merged, 0, m);
     send_merged(work, out, p, name, event, theirs)
 }
 
 fn plan_update(work: &mut [u8], out: &mut [u8], p: Progress, name: Name, theirs: &[u8]) -> Progress
     requires has_state { HasState work.old }
-    requires named { (Named name.bytes) × (IsEvent theirs.now) × (HeadCase (name_of name.bytes) work.old 1) }
-    ensures { (t : ProviderEvent) → event_f.Ok t → theirs.now ≡ event_f.enc t → Does (plan_head (name_of name.bytes) (some t)) work.old out.old p result work.new out.new }
+    requires named { (Named name.bytes) × (IsEvent theirs.now) × (HeadCase (name_of name.bytes) work.old (Some OperationCase.Update)) }
+    ensures { (t : ProviderEvent) → event_f.Ok t → theirs.now ≡ event_f.enc t → Does (plan_head (name_of name.bytes) (Some t)) work.old out.old p result work.new out.new }
 {
-    let place = waiting::find_entry(work, name, 0);
-    match place {
-        Place::Found(at) => {
-            return plan_update_at(work, out, p, name, at, theirs);
-        }
-        Place::Missing(_at) => {
-            return p;
-        }
+    match waiting::find_entry(work, name, 0) {
+        Some(at) => plan_update_at(work, out, p, name, Entry { at }, theirs),
+        None => p,
     }
 }
 
@@ -342,23 +330,18 @@ fn plan_update(work: &mut [u8], out: &mut [u8], p: Progress, name: Name, theirs:
 fn same_as_head(work: &[u8], name: Name, theirs: &[u8]) -> bool
     requires has_state { HasState work.now }
     requires named { Named name.bytes }
-    ensures { (e t : ProviderEvent) → Reads (λ s. created (nth 0 (queue (name_of name.bytes) s))) work.now (some e) → Begins event_f theirs.now t → result ≡ same fields_f t.fields e.fields }
+    ensures { (e t : ProviderEvent) → Reads (λ s. created (nth 0 (queue (name_of name.bytes) s))) work.now (Some e) → Begins event_f theirs.now t → result ≡ same fields_f t.fields e.fields }
 {
-    let place = waiting::find_entry(work, name, 0);
-    match place {
-        Place::Found(at) => {
-            return same_fields(work, at, theirs);
-        }
-        Place::Missing(_at) => {
-            return false;
-        }
+    match waiting::find_entry(work, name, 0) {
+        Some(at) => Entry { at }.same_fields(work, theirs),
+        None => false,
     }
 }
 
 fn plan_create(work: &mut [u8], out: &mut [u8], p: Progress, name: Name, theirs: &[u8]) -> Progress
     requires has_state { HasState work.old }
-    requires named { (Named name.bytes) × (IsEvent theirs.now) × (HeadCase (name_of name.bytes) work.old 0) }
-    ensures { (t : ProviderEvent) → event_f.Ok t → theirs.now ≡ event_f.enc t → Does (plan_head (name_of name.bytes) (some t)) work.old out.old p result work.new out.new }
+    requires named { (Named name.bytes) × (IsEvent theirs.now) × (HeadCase (name_of name.bytes) work.old (Some OperationCase.Create)) }
+    ensures { (t : ProviderEvent) → event_f.Ok t → theirs.now ≡ event_f.enc t → Does (plan_head (name_of name.bytes) (Some t)) work.old out.old p result work.new out.new }
 {
     if queues::looks_up(work, name) {
         let to = observe::resource_of(theirs);
@@ -382,41 +365,35 @@ pub fn plan_found(
 ) -> Progress
     requires has_state { HasState work.old }
     requires named { (Named name.bytes) × (IsEvent theirs.now) }
-    ensures { (t : ProviderEvent) → event_f.Ok t → theirs.now ≡ event_f.enc t → Does (plan_head (name_of name.bytes) (some t)) work.old out.old p result work.new out.new }
+    ensures { (t : ProviderEvent) → event_f.Ok t → theirs.now ≡ event_f.enc t → Does (plan_head (name_of name.bytes) (Some t)) work.old out.old p result work.new out.new }
 {
-    let case = waiting::operation_case(work, name, 0);
-    if case == 0 {
-        return plan_create(work, out, p, name, theirs);
+    match waiting::operation_case(work, name, 0) {
+        Some(OperationCase::Create) => plan_create(work, out, p, name, theirs),
+        Some(OperationCase::Update) => plan_update(work, out, p, name, theirs),
+        Some(OperationCase::Delete) => request_delete(work, out, p, name, revision_of(theirs)),
+        None => p,
     }
-    if case == 1 {
-        return plan_update(work, out, p, name, theirs);
-    }
-    if case == 2 {
-        return request_delete(work, out, p, name, revision_of(theirs));
-    }
-    p
 }
 
 // The same, where nothing was found.
 pub fn plan_gone(work: &mut [u8], out: &mut [u8], p: Progress, name: Name) -> Progress
     requires has_state { HasState work.old }
     requires named { Named name.bytes }
-    ensures { Does (plan_head (name_of name.bytes) none) work.old out.old p result work.new out.new }
+    ensures { Does (plan_head (name_of name.bytes) None) work.old out.old p result work.new out.new }
 {
-    let case = waiting::operation_case(work, name, 0);
-    if case == 0 {
-        if waiting::is_collided(work, name, 0) {
-            let ending = Ending::Rejected(Refusal::Exists);
-            return queues::finish(work, out, p, name, ending, b"");
+    match waiting::operation_case(work, name, 0) {
+        Some(OperationCase::Create) => {
+            if waiting::is_collided(work, name, 0) {
+                let ending = Ending::Rejected(Refusal::Exists);
+                return queues::finish(work, out, p, name, ending, b"");
+            }
+            queues::request_create(work, out, p, name)
         }
-        return queues::request_create(work, out, p, name);
+        Some(OperationCase::Update) => {
+            let ending = Ending::Rejected(Refusal::Gone);
+            queues::finish(work, out, p, name, ending, b"")
+        }
+        Some(OperationCase::Delete) => queues::finish(work, out, p, name, Ending::Applied, b""),
+        None => p,
     }
-    if case == 1 {
-        let ending = Ending::Rejected(Refusal::Gone);
-        return queues::finish(work, out, p, name, ending, b"");
-    }
-    if case == 2 {
-        return queues::finish(work, out, p, name, Ending::Applied, b"");
-    }
-    p
 }

@@ -2,8 +2,7 @@
 // that it calls, and asks nothing of what it is lent. A second answer is written through a reference.
 #![tactic(auto)]
 
-ghost use Rattle.std.specs.Prelude.{◌≡◌, false, ◌+◌, ◌≤◌, length};
-ghost use Rattle.std.proofs.Math.Option.{none};
+ghost use Rattle.std.specs.Prelude.{◌≡◌, false, ◌+◌, ◌≤◌, length, None};
 ghost use Rattle.lent.specs.Lent.{part};
 ghost use Rattle.frame.specs.Read.{kept};
 ghost use Rattle.model.specs.Maps.{keys};
@@ -16,9 +15,12 @@ ghost use Rattle.engine.specs.Answers.{lent, returned};
 ghost use Rattle.sender_turns.specs.Sender.{Use};
 ghost use Rattle.sender_turns.specs.Laid.{no_call};
 ghost use Rattle.sender_bytes.specs.Bytes.{sender_length, freshened};
-ghost use Rattle.sender_bytes.specs.Read.{Uses};
+ghost use Rattle.sender_bytes.specs.Read.{granted_by, Uses};
 ghost use Rattle.clerks_bytes.specs.Writes.{line_bytes, work_bytes};
 ghost use Rattle.clerks_bytes.specs.Returned.{asked};
+
+use sender_bytes::Refusal;
+use sender_turns::Call;
 
 // The length of a state's buffer and of the work buffer.
 #[unsafe(no_mangle)]
@@ -85,7 +87,7 @@ pub extern "C" fn bay_cursor(
     at: &mut usize,
     extent: &mut usize,
 ) -> u8
-    ensures { Answers (λ s. s.cursor) none state.now result (kept found.new (part at.new extent.new state.now)) × (at.new + extent.new ≤ length state.now) }
+    ensures { Answers (λ s. s.cursor) None state.now result (kept found.new (part at.new extent.new state.now)) × (at.new + extent.new ≤ length state.now) }
 {
     let a = access::cursor(state);
     let text = a.text;
@@ -106,7 +108,7 @@ pub extern "C" fn bay_record_at(
     event: &mut usize,
     extent: &mut usize,
 ) -> u8
-    ensures { Answers (λ s. record_bytes (nth i s.records)) none state.now result (kept found.new (part name.new size.new state.now, part event.new extent.new state.now)) × (name.new + size.new ≤ length state.now) × (event.new + extent.new ≤ length state.now) }
+    ensures { Answers (λ s. record_bytes (nth i s.records)) None state.now result (kept found.new (part name.new size.new state.now, part event.new extent.new state.now)) × (name.new + size.new ≤ length state.now) × (event.new + extent.new ≤ length state.now) }
 {
     let a = access::record_at(state, i);
     let named = a.name;
@@ -133,7 +135,30 @@ pub extern "C" fn bay_sender_length() -> usize
 pub extern "C" fn bay_sender_fresh(sender: &mut [u8]) -> u8
     ensures { (result, sender.new) ≡ freshened sender.old }
 {
-    sender_bytes::fresh(sender)
+    match sender_bytes::fresh(sender) {
+        Ok(()) => 0,
+        Err(e) => u8::from(e),
+    }
+}
+
+// Writes the call that was granted, if one was, and answers 0 or the refusal's number.
+#[tactic(auto, unfolding(sender_bytes::specs::Read::granted_by))]
+fn tell(
+    answer: Result<Option<Call>, Refusal>,
+    granted: &mut bool,
+    to: &mut u8,
+    request: &mut u64,
+) -> u8
+    ensures { record { code = result; granted = granted.new; call = record { mill = to.new; number = request.new } } ≡ granted_by answer }
+{
+    (*granted, *to, *request) = match answer {
+        Ok(Some(call)) => (true, call.mill, call.number),
+        _ => (false, 0, 0),
+    };
+    match answer {
+        Ok(_) => 0,
+        Err(e) => u8::from(e),
+    }
 }
 
 #[unsafe(no_mangle)]
@@ -148,11 +173,7 @@ pub extern "C" fn bay_sender_enter(
     ensures { Uses (Use.Enter mill number) sender.old sender.new (record { code = result; granted = granted.new; call = record { mill = to.new; number = request.new } }) }
 {
     let a = sender_bytes::enter(sender, mill, number);
-    let call = a.call;
-    *granted = a.granted;
-    *to = call.mill;
-    *request = call.number;
-    a.code
+    tell(a, granted, to, request)
 }
 
 #[unsafe(no_mangle)]
@@ -167,11 +188,7 @@ pub extern "C" fn bay_sender_reply(
     ensures { Uses (Use.Reply mill number) sender.old sender.new (record { code = result; granted = granted.new; call = record { mill = to.new; number = request.new } }) }
 {
     let a = sender_bytes::reply(sender, mill, number);
-    let call = a.call;
-    *granted = a.granted;
-    *to = call.mill;
-    *request = call.number;
-    a.code
+    tell(a, granted, to, request)
 }
 
 // A Resume grants nothing, so there is no call to tell.
@@ -179,8 +196,10 @@ pub extern "C" fn bay_sender_reply(
 pub extern "C" fn bay_sender_resume(sender: &mut [u8], mill: u8) -> u8
     ensures { Uses (Use.Resume mill) sender.old sender.new (record { code = result; granted = false; call = no_call }) }
 {
-    let a = sender_bytes::resume(sender, mill);
-    a.code
+    match sender_bytes::resume(sender, mill) {
+        Ok(_) => 0,
+        Err(e) => u8::from(e),
+    }
 }
 
 // ---- two clerks

@@ -1,5 +1,5 @@
+use Rattle.std.specs.Prelude.{None}
 use Rattle.access.proofs.Laws.{answers_no, answers_zero, has_of}
-use mathlib.Core.Option.{none}
 use borrow.Author.Rules.{rules}
 use Rattle.access.proofs.cursor.Goals as goal
 
@@ -10,4 +10,4 @@ pub cursor_text-requires : goal.cursor_text-requires
 cursor_text-requires c = has_of c.refusal-code.ensures c.if-code-ne0.false
 
 pub returns : goal.returns
-returns c = (answers_zero c.refusal-code.ensures none c.if-code-ne0.false c.cursor_text.ensures.0 c.cursor_text.ensures.1, c.cursor_text.ensures.2)
+returns c = (answers_zero c.refusal-code.ensures None c.if-code-ne0.false c.cursor_text.ensures.0 c.cursor_text.ensures.1, c.cursor_text.ensures.2)

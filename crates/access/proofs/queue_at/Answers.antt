@@ -1,5 +1,5 @@
+use Rattle.std.specs.Prelude.{None}
 use Rattle.access.proofs.Laws.{answers_no, answers_zero, has_of}
-use mathlib.Core.Option.{none}
 use borrow.Author.Rules.{rules}
 use Rattle.access.proofs.queue_at.Goals as goal
 
@@ -10,4 +10,4 @@ pub queue_bytes-requires : goal.queue_bytes-requires
 queue_bytes-requires c = has_of c.refusal-code.ensures c.if-code-ne0.false
 
 pub returns : goal.returns
-returns c = (answers_zero c.refusal-code.ensures none c.if-code-ne0.false c.queue_bytes.ensures.0 c.queue_bytes.ensures.1, c.queue_bytes.ensures.2)
+returns c = (answers_zero c.refusal-code.ensures None c.if-code-ne0.false c.queue_bytes.ensures.0 c.queue_bytes.ensures.1, c.queue_bytes.ensures.2)

@@ -1,5 +1,5 @@
+use Rattle.std.specs.Prelude.{None}
 use Rattle.access.proofs.Laws.{answers_no, answers_zero, has_of}
-use mathlib.Core.Option.{none}
 use borrow.Author.Rules.{rules}
 use Rattle.access.proofs.record_at.Goals as goal
 
@@ -10,4 +10,4 @@ pub record_bytes-requires : goal.record_bytes-requires
 record_bytes-requires c = has_of c.refusal-code.ensures c.if-code-ne0.false
 
 pub returns : goal.returns
-returns c = (answers_zero c.refusal-code.ensures none c.if-code-ne0.false c.record_bytes.ensures.0 c.record_bytes.ensures.1, c.record_bytes.ensures.2, c.record_bytes.ensures.3)
+returns c = (answers_zero c.refusal-code.ensures None c.if-code-ne0.false c.record_bytes.ensures.0 c.record_bytes.ensures.1, c.record_bytes.ensures.2, c.record_bytes.ensures.3)

@@ -1,10 +1,6 @@
 use Rattle.answers.proofs.Found as found
-use mathlib.Core.Option.{some}
 use mathlib.Core.List.{[]}
 use Rattle.answers.proofs.edit_read_event.Goals as goal
-
-pub returns-then-doubtful : goal.returns-then-doubtful
-returns-then-doubtful c = λ t k e. found.overtaken _ _ c.doubtful.ensures (some t) c.if-doubtful.true c.read_or_doubt.ensures
 
 pub plan_found-requires : goal.plan_found-requires
 plan_found-requires c = record { has_state = let I = c.requires.named.1 in ((c.observe_some-q.ensures I.event I.ok I.is).does []).state c.requires.has_state; named = (c.requires.named.0, c.requires.named.1) }

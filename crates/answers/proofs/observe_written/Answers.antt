@@ -1,8 +1,5 @@
 use Rattle.answers.proofs.Writes as writes
 use Rattle.answers.proofs.observe_written.Goals as goal
 
-pub returns-then-doubtful : goal.returns-then-doubtful
-returns-then-doubtful c = λ e k q. writes.write_doubted _ _ _ c.doubtful.ensures c.if-doubtful.true c.doubt.ensures
-
 pub returns : goal.returns
 returns c = λ e k q. writes.write_observed _ _ _ c.doubtful.ensures c.if-doubtful.false ((c.observe_some.ensures e k q).does _)

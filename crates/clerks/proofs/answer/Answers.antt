@@ -4,11 +4,8 @@ use Rattle.clerks.proofs.Laws.{prints_line, prints_none}
 use borrow.Author.Rules.{rules}
 use Rattle.clerks.proofs.answer.Goals as goal
 
-pub slice_bounds-answer_line-end-then-only : goal.slice_bounds-answer_line-end-then-only
-slice_bounds-answer_line-end-then-only c = sym (length-take-le _ _ c.only_line-only.ensures.fits)
+pub returns-in-Some : goal.returns-in-Some
+returns-in-Some c = prints_line c.only.ensures (search rules) _ c.in-Some.is c.answer_line.ensures
 
-pub returns-then-only : goal.returns-then-only
-returns-then-only c = prints_line _ c.only_line-only.ensures (search rules) c.if-only.true c.answer_line.ensures
-
-pub returns : goal.returns
-returns c = prints_none _ c.only_line-only.ensures (search rules) c.if-only.false c.put_number.ensures
+pub returns-in-None : goal.returns-in-None
+returns-in-None c = prints_none c.only.ensures (search rules) c.in-None.is c.put_number.ensures

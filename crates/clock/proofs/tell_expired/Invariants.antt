@@ -1,7 +1,5 @@
-use Prim.Native.Nat.{◌-◌, ◌≤◌}
-use mathlib.Core.Path.{◌≡◌}
-use lib.ListN.{length, take}
-use mathlib.Core.Option.{some}
+use Rattle.std.specs.Prelude.{Some}
+use lib.ListN.{take}
 use Rattle.model.specs.State.{Pending}
 use Rattle.model.specs.Machine.{for_each}
 use Rattle.model.specs.Sync.{ids_of}
@@ -13,7 +11,4 @@ use Rattle.clock.proofs.Expiring as expiring
 use Rattle.clock.proofs.tell_expired.Given as goal
 
 abbrev pub invariant-loop-k : goal.invariant-loop-k
-invariant-loop-k l = (l.k ≤ l.n) × (length l.out ≡ length l.initial.out) × ((e : Pending) → Reads (λ s. nth l.j (queue (name_of l.name.bytes) s)) l.work (some e) → Does (for_each expiring.tell_id (take l.k (ids_of e))) l.work l.initial.out l.initial.q l.q l.work l.out)
-
-abbrev pub decreases-loop-k : goal.decreases-loop-k
-decreases-loop-k l = l.n - l.k
+invariant-loop-k l = (e : Pending) → Reads (λ s. nth l.j (queue (name_of l.name.bytes) s)) l.work (Some e) → Does (for_each expiring.tell_id (take l.k (ids_of e))) l.work l.initial.out l.initial.q l.q l.work l.out

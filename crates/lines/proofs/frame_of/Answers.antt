@@ -1,24 +1,33 @@
-use Rattle.lines.specs.Pairs.{meant_pair}
-use mathlib.Core.Path.{sym, ap, ◌∙◌}
-use Rattle.lines.proofs.Laws.{frame_long, frame_starts, frame_more, frame_bad, frame_odd, frame_ends}
-use native.Mathlib.Omega.{arith}
-use borrow.Author.Rules.{rules}
+use Rattle.std.proofs.Common.{◌≡◌, length, take, sym, ap, ◌∙◌, rules, arith}
+use Rattle.std.proofs.lemmas.Bool.Decides.{nat_tests}
+use Rattle.lines.specs.Lines.{held}
+use Rattle.lines.proofs.Laws.{frame_long, frame_odd, frame_even, bytes_of, frame_bad, frame_ends}
 use Rattle.lines.proofs.frame_of.Goals as goal
+use Rattle.lines.proofs.frame_of.Goals.{then-line-gt-MAX_DIGITS-via-then-line-gt-MAX_DIGITS, then-line-gt-MAX_DIGITS-via-else-line-gt-MAX_DIGITS+then-not-is_empty}
 
 pub returns-then-line-gt-MAX_DIGITS : goal.returns-then-line-gt-MAX_DIGITS
-returns-then-line-gt-MAX_DIGITS c = (search rules, frame_long _ c.if-line-gt-MAX_DIGITS.true)
-
-pub loop-i-init : goal.loop-i-init
-loop-i-init c = (search rules, search rules, search rules, frame_starts _ c.args.frame.now c.if-line-gt-MAX_DIGITS.false)
+returns-then-line-gt-MAX_DIGITS c = (
+  search rules,
+  elim c.then-line-gt-MAX_DIGITS.branch [
+    | then-line-gt-MAX_DIGITS-via-then-line-gt-MAX_DIGITS w ↦ frame_long _ w.if-line-gt-MAX_DIGITS.true
+    | then-line-gt-MAX_DIGITS-via-else-line-gt-MAX_DIGITS+then-not-is_empty w ↦ frame_odd _ (grind (arith, nat_tests))
+  ],
+)
 
 pub returns-in_default : goal.returns-in_default
-returns-in_default c = (search rules, frame_bad c.args.line.now c.loop-i.frame c.loop-i.i c.loop-i.n c.loop-i-test.true (ap meant_pair (sym c.in_default.is) ∙ c.byte_of-p.ensures) ∙ sym c.loop-i.invariant.3)
-
-pub loop-i-preserved : goal.loop-i-preserved
-loop-i-preserved c = (search rules, search rules, search rules, c.loop-i.invariant.3 ∙ frame_more c.args.line.now c.loop-i.frame c.loop-i.i c.loop-i.n _ c.loop-i-test.true (omega arith) (ap meant_pair (sym c.in-Byte.is) ∙ c.byte_of-p.ensures))
-
-pub returns-then-i-line : goal.returns-then-i-line
-returns-then-i-line c = (search rules, frame_odd c.args.line.now c.loop-i.frame c.loop-i.i c.loop-i.n c.if-i-line.true c.loop-i-test.false ∙ sym c.loop-i.invariant.3)
+returns-in_default c = (
+  search rules,
+  frame_bad _ _ c.loop-n.n c.loop-n.invariant.1 c.loop-n-test.true c.in_default.ensures
+      ∙ ap (λ x. held (bytes_of x)) c.as_chunks.ensures.front
+      ∙ sym (frame_even c.args.line.now c.if-line-gt-MAX_DIGITS.false (grind (arith, nat_tests))),
+)
 
 pub returns : goal.returns
-returns c = (search rules, frame_ends c.args.line.now c.loop-i.frame c.loop-i.i c.loop-i.n c.if-i-line.false ∙ sym c.loop-i.invariant.3)
+returns c =
+    let e : c.loop-n.n ≡ length c.as_chunks.result.0.now = omega arith in (
+      search rules,
+      ap (λ n. take n c.loop-n.frame) (sym e)
+          ∙ frame_ends _ _ c.loop-n.n c.loop-n.invariant.1 c.loop-n-test.false
+          ∙ ap (λ x. held (bytes_of x)) c.as_chunks.ensures.front
+          ∙ sym (frame_even c.args.line.now c.if-line-gt-MAX_DIGITS.false (grind (arith, nat_tests))),
+    )

@@ -1,16 +1,19 @@
-use mathlib.Core.Path.{ap, ◌∙◌}
+use Prim.Native.Nat.{◌<◌}
+use native.Mathlib.Omega.{arith}
+use lib.ListN.{length, set}
 use Rattle.tables.proofs.Laws as tables
 use Rattle.pass_header.proofs.Laws as laws
-use lib.ListN.{length}
-use native.Mathlib.Omega.{arith}
 use Rattle.pass_header.proofs.open_pass.Goals as goal
 
-pub put_slot-requires : goal.put_slot-requires
-put_slot-requires c =
+pub bounds-work-9186 : goal.bounds-work-9186
+bounds-work-9186 c =
     let l = c.requires.keeps.long in
-    let n = ap length c.field_at-cursor.ensures ∙ tables.part_length c.args.work.now 9151 34 (omega arith) in
-    let k = c.clear_in.auto.work in
-    omega arith
+    let z = laws.zeroed 9185 10817 c.args.work.now _ c.fill.new.self (tables.part_length c.args.work.now 9185 10817 (omega arith)) (c.fill.ensures.after (λ y e. e)) in
+    let h : 9186 < length (set c.copy_within.new.self 9185 1) = laws.full_inside c.args.work.now _ c.copy_within.new.self 1 l z c.copy_within.ensures.len in
+    h
 
 pub returns : goal.returns
-returns c = laws.pass_opened c.args.work.now c.clear_in.new.work c.put_slot.new.region c.put_slot-2.new.region c.field_at-cursor.result.bytes _ c.flipped-full.ensures c.field_at-cursor.ensures c.clear_in.ensures c.put_slot.ensures c.put_slot-2.ensures
+returns c =
+    let l = c.requires.keeps.long in
+    laws.pass_opened c.args.work.now _ c.copy_within.new.self c.from.result c.from.ensures
+    (laws.zeroed 9185 10817 c.args.work.now _ c.fill.new.self (tables.part_length c.args.work.now 9185 10817 (omega arith)) (c.fill.ensures.after (λ y e. e))) c.copy_within.ensures.after

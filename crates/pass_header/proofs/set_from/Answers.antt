@@ -1,19 +1,12 @@
-use Rattle.pass_header.proofs.Laws as laws
-use native.Mathlib.Omega.{arith}
 use Rattle.pass_tables.proofs.Laws as pass
+use Rattle.pass_header.proofs.Laws as laws
 use Rattle.pass_header.proofs.set_from.Goals as goal
-
-pub returns-then-open-eq0 : goal.returns-then-open-eq0
-returns-then-open-eq0 c = pass.unchanged _ c.args.work.now c.if-open-eq0.true
 
 pub field_of-from-requires : goal.field_of-from-requires
 field_of-from-requires c = laws.short_long c.args.cursor.now c.requires.ok
 
-pub put_slot-requires : goal.put_slot-requires
-put_slot-requires c =
-    let l = c.requires.has_state.keeps.long in
-    let n = laws.field_long 2 c.args.cursor.now c.field_of-from.result.bytes (laws.short_long c.args.cursor.now c.requires.ok) c.field_of-from.ensures in
-    omega arith
+pub returns-then-is_open : goal.returns-then-is_open
+returns-then-is_open c = laws.from_set c.args.cursor.now c.field_of-from.result c.args.work.now c.put_slot.new.region c.requires.ok c.is_open.ensures c.if-is_open.true c.field_of-from.ensures c.put_slot.ensures
 
-pub returns : goal.returns
-returns c = laws.from_set c.args.cursor.now c.field_of-from.result.bytes c.args.work.now c.put_slot.new.region c.requires.ok c.if-open-eq0.false c.field_of-from.ensures c.put_slot.ensures
+pub returns-else-is_open : goal.returns-else-is_open
+returns-else-is_open c = pass.unchanged _ c.args.work.now c.is_open.ensures c.if-is_open.false

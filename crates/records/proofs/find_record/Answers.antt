@@ -1,12 +1,9 @@
 use Rattle.state.proofs.Columns as columns
-use Rattle.state.proofs.Ops as ops
 use Rattle.records.proofs.Laws as laws
-use native.Mathlib.Omega.{arith}
 use Rattle.records.proofs.find_record.Goals as goal
 
-pub find_in-requires : goal.find_in-requires
-find_in-requires c = let a = ops.named_long c.args.name.bytes c.requires.named in
-    record { lent = columns.has_lent laws.record_column c.requires.has_state; key_nonzero = omega arith }
+pub find-requires-clause-lent : goal.find-requires-clause-lent
+find-requires-clause-lent c = columns.has_lent laws.record_column c.requires.has_state
 
 pub returns : goal.returns
-returns c = laws.finds c.args.name.bytes c.args.work.now _ c.requires.named c.find_in.ensures
+returns c = rw c.ok.ensures.value (laws.finds c.args.name.bytes c.args.work.now c.find.result c.requires.named c.find.ensures)

@@ -1,38 +1,31 @@
-use mathlib.Core.Path.{refl}
-use Rattle.model.specs.Sync.{doubt}
-use Rattle.observe.proofs.Each as each
-use Rattle.observe.proofs.Reading as reading
+use Prim.Native.Nat.{◌<◌}
 use native.Mathlib.Omega.{arith}
+use lib.ListN.{length}
+use Rattle.model.specs.Maps.{map}
+use Rattle.model.specs.Sync.{doubt}
+use Rattle.state.specs.Values.{name_of, Named}
+use Rattle.observe.proofs.Each as each
 use Rattle.restarts.proofs.doubt_each.Goals as goal
 
 pub loop-i-init : goal.loop-i-init
-loop-i-init c = (c.requires.has_state, omega arith, refl, refl, λ l L. each.each_start doubt l)
-
-pub listed_name-name-requires : goal.listed_name-name-requires
-listed_name-name-requires c = reading.listed_below _ _ _ c.requires.has_list c.loop-i-test.true
+loop-i-init c = (c.requires.has_state, each.each_start doubt (map name_of c.args.names.now))
 
 pub doubt-q-requires : goal.doubt-q-requires
-doubt-q-requires c = record { has_state = c.loop-i.invariant.0; named = reading.named_in _ _ _ _ c.requires.has_list c.loop-i-test.true c.listed_name-name.ensures }
-
-pub overflow_add-i : goal.overflow_add-i
-overflow_add-i c =
-    let h = reading.listed_below _ _ _ c.requires.has_list c.loop-i-test.true in
-    omega arith
+doubt-q-requires c =
+    let l = c.loop-i-test.true in
+    let e = c.len-i-end.ensures in
+    let N : Named c.name-name.result.bytes = rw c.name-name.ensures (c.requires.named.named c.loop-i.i (omega arith)) in
+    record { has_state = c.loop-i.invariant.0; named = N }
 
 pub loop-i-preserved : goal.loop-i-preserved
-loop-i-preserved c = (
-  c.doubt-q.ensures.state c.loop-i.invariant.0,
-  (let l = c.loop-i-test.true in omega arith),
-  (let k = c.doubt-q.auto.work in let e = c.loop-i.invariant.2 in omega arith),
-  (let k = c.doubt-q.auto.out in let e = c.loop-i.invariant.3 in omega arith),
-  λ l L. reading.list_turn doubt l _ _ _ c.loop-i-test.true _ L (c.listed_name-name.ensures l _ L c.loop-i-test.true).0 (c.loop-i.invariant.4 l L) c.doubt-q.ensures,
-)
-
-pub shape_of-work : goal.shape_of-work
-shape_of-work c = c.loop-i.invariant.2
-
-pub shape_of-out : goal.shape_of-out
-shape_of-out c = c.loop-i.invariant.3
+loop-i-preserved c =
+    let l = c.loop-i-test.true in
+    let e = c.len-i-end.ensures in
+    let h : c.loop-i.i < length c.args.names.now = omega arith in
+    (c.doubt-q.ensures.state c.loop-i.invariant.0, each.names_turn doubt _ c.loop-i.i _ h c.name-name.ensures c.loop-i.invariant.1 c.doubt-q.ensures)
 
 pub returns : goal.returns
-returns c = λ l L. reading.list_all doubt l _ _ _ c.loop-i.invariant.1 c.loop-i-test.false L (c.loop-i.invariant.4 l L)
+returns c =
+    let l = c.loop-i-test.false in
+    let e = c.len-i-end.ensures in
+    each.names_end doubt _ c.loop-i.i (omega arith) c.loop-i.invariant.1

@@ -1,12 +1,9 @@
 use Rattle.sender_turns.specs.Sender.{Use}
-use Rattle.sender_bytes.proofs.UseLaws.{have, leaves, uses_refused, uses_done}
+use Rattle.sender_bytes.proofs.UseLaws.{long, leaves, uses_done}
 use Rattle.sender_bytes.proofs.enter.Goals as goal
 
-pub returns-then-h-ne0 : goal.returns-then-h-ne0
-returns-then-h-ne0 c = uses_refused (Use.Enter c.args.mill c.args.number) _ _ _ c.sender_held-h.ensures c.if-h-ne0.true c.refused.ensures
-
-pub left-requires : goal.left-requires
-left-requires c = ((have _ _ c.sender_held-h.ensures c.if-h-ne0.false).long, leaves (Use.Enter c.args.mill c.args.number) _ _ _ (have _ _ c.sender_held-h.ensures c.if-h-ne0.false) c.enter.ensures)
+pub put_sender-requires : goal.put_sender-requires
+put_sender-requires c = (long _ _ c.in_ok-held.ensures, leaves (Use.Enter c.args.mill c.args.number) _ _ _ c.in_ok-held.ensures _ c.enter.ensures)
 
 pub returns : goal.returns
-returns c = uses_done (Use.Enter c.args.mill c.args.number) _ _ _ (have _ _ c.sender_held-h.ensures c.if-h-ne0.false) c.enter.ensures _ _ c.left.ensures.0 c.left.ensures.1
+returns c = uses_done (Use.Enter c.args.mill c.args.number) _ _ _ c.in_ok-held.ensures _ _ c.in_ok-granted.ensures c.put_sender.ensures

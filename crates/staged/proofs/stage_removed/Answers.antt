@@ -3,4 +3,4 @@ use Rattle.staged.proofs.Laws as laws
 use Rattle.staged.proofs.stage_removed.Goals as goal
 
 pub returns : goal.returns
-returns c = c.stage_byte.ensures Staged.Removed (laws.removed_ok).0 (laws.removed_ok).1
+returns c = c.stage.ensures Staged.Removed (laws.removed_ok).0 (laws.removed_ok).1

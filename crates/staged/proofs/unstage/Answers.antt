@@ -1,15 +1,13 @@
 use Rattle.state.proofs.Columns as columns
-use Rattle.state.proofs.Ops as ops
+use Rattle.pass_tables.proofs.Laws as pass
 use Rattle.staged.proofs.Laws as laws
-use native.Mathlib.Omega.{arith}
 use Rattle.staged.proofs.unstage.Goals as goal
 
-pub returns-then-open-eq0 : goal.returns-then-open-eq0
-returns-then-open-eq0 c = laws.unstage_closed _ c.args.work.now c.if-open-eq0.true
+pub remove-requires-clause-lent : goal.remove-requires-clause-lent
+remove-requires-clause-lent c = columns.has_lent laws.staged_column c.requires.has_state
 
-pub remove_in-requires : goal.remove_in-requires
-remove_in-requires c = let a = ops.named_long c.args.name.bytes c.requires.named in
-    record { lent = columns.has_lent laws.staged_column c.requires.has_state; key_nonzero = omega arith }
+pub returns-then-is_open : goal.returns-then-is_open
+returns-then-is_open c = laws.unstaged c.args.name.bytes c.args.work.now c.remove.new.work c.requires.named c.is_open.ensures c.if-is_open.true c.remove.ensures
 
-pub returns : goal.returns
-returns c = laws.unstaged c.args.name.bytes c.args.work.now c.remove_in.new.work c.requires.named c.if-open-eq0.false c.remove_in.ensures
+pub returns-else-is_open : goal.returns-else-is_open
+returns-else-is_open c = pass.unchanged _ c.args.work.now c.is_open.ensures c.if-is_open.false

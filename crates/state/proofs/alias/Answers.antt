@@ -1,33 +1,25 @@
+use native.Mathlib.Omega.{arith}
 use mathlib.Core.Path.{sym, ◌∙◌}
 use Rattle.state.proofs.Columns as columns
 use Rattle.state.proofs.Ops as ops
-use native.Mathlib.Omega.{arith}
 use Rattle.state.proofs.alias.Goals as goal
 
-pub find_in-p-requires : goal.find_in-p-requires
-find_in-p-requires c = let a = ops.named_long c.args.from.bytes c.requires.named in
-    record { lent = columns.has_lent ops.alias_column c.requires.has_state; key_nonzero = omega arith }
+pub find-requires-clause-lent : goal.find-requires-clause-lent
+find-requires-clause-lent c = columns.has_lent ops.alias_column c.requires.has_state
 
 pub overflow_add-at : goal.overflow_add-at
-overflow_add-at c =
-    let h = ops.alias_room c.args.from.bytes c.args.work.now c.in-Found.at c.requires.named c.requires.has_state (λ t z e. sym c.in-Found.is ∙ c.find_in-p.ensures t z e) in
-    let l = c.requires.has_state.keeps.long in
-    omega arith
+overflow_add-at c = omega (arith, ops.alias_room c.args.from.bytes c.args.work.now c.in-Ok.at c.requires.named c.requires.has_state (λ t z e. sym c.in-Ok.is ∙ c.find.ensures t z e))
 
-pub overflow_add-at-in-Found : goal.overflow_add-at-in-Found
-overflow_add-at-in-Found c =
-    let h = ops.alias_room c.args.from.bytes c.args.work.now c.in-Found.at c.requires.named c.requires.has_state (λ t z e. sym c.in-Found.is ∙ c.find_in-p.ensures t z e) in
-    let l = c.requires.has_state.keeps.long in
-    omega arith
+pub overflow_add-at-in-Ok : goal.overflow_add-at-in-Ok
+overflow_add-at-in-Ok c = omega (arith, ops.alias_room c.args.from.bytes c.args.work.now c.in-Ok.at c.requires.named c.requires.has_state (λ t z e. sym c.in-Ok.is ∙ c.find.ensures t z e))
 
-pub name_at-name-requires : goal.name_at-name-requires
-name_at-name-requires c =
-    let h = ops.alias_room c.args.from.bytes c.args.work.now c.in-Found.at c.requires.named c.requires.has_state (λ t z e. sym c.in-Found.is ∙ c.find_in-p.ensures t z e) in
-    let l = c.requires.has_state.keeps.long in
-    omega arith
+pub name_at-requires : goal.name_at-requires
+name_at-requires c = omega (arith, ops.alias_room c.args.from.bytes c.args.work.now c.in-Ok.at c.requires.named c.requires.has_state (λ t z e. sym c.in-Ok.is ∙ c.find.ensures t z e))
 
-pub returns-in-Found : goal.returns-in-Found
-returns-in-Found c = let both = ops.alias_found c.args.from.bytes c.args.work.now c.name_at-name.result.bytes c.in-Found.at c.requires.named c.requires.has_state (λ t z e. sym c.in-Found.is ∙ c.find_in-p.ensures t z e) c.name_at-name.ensures in record { reads = both.0; named_2 = both.1 }
+pub returns-in-Ok : goal.returns-in-Ok
+returns-in-Ok c =
+    let both = ops.alias_found c.args.from.bytes c.args.work.now c.name_at.result.bytes c.in-Ok.at c.requires.named c.requires.has_state (λ t z e. sym c.in-Ok.is ∙ c.find.ensures t z e) c.name_at.ensures in
+    record { reads = both.0; named_2 = both.1 }
 
-pub returns-in-Missing : goal.returns-in-Missing
-returns-in-Missing c = record { reads = ops.alias_missing c.args.from.bytes c.args.work.now c.in-Missing.at c.requires.named (λ t z e. sym c.in-Missing.is ∙ c.find_in-p.ensures t z e); named_2 = c.requires.named }
+pub returns-in-Err-clause-reads : goal.returns-in-Err-clause-reads
+returns-in-Err-clause-reads c = ops.alias_missing c.args.from.bytes c.args.work.now c.in-Err.field-0 c.requires.named (λ t z e. sym c.in-Err.is ∙ c.find.ensures t z e)

@@ -1,14 +1,9 @@
 use Rattle.state.proofs.Columns as columns
 use Rattle.state.proofs.Ops as ops
-use native.Mathlib.Omega.{arith}
 use Rattle.state.proofs.drop_in_flight.Goals as goal
 
-pub purpose_bytes-p-requires : goal.purpose_bytes-p-requires
-purpose_bytes-p-requires c = c.requires.named
-
-pub sift_in-requires : goal.sift_in-requires
-sift_in-requires c = let b = ops.purpose_long c.args.kind c.args.name.bytes c.purpose_bytes-p.result.bytes c.requires.named c.purpose_bytes-p.ensures in
-    record { lent = columns.has_lent ops.flight_column c.requires.has_state; pattern_bound = omega arith }
+pub sift-requires-clause-lent : goal.sift-requires-clause-lent
+sift-requires-clause-lent c = columns.has_lent ops.flight_column c.requires.has_state
 
 pub returns : goal.returns
-returns c = ops.flight_dropped c.args.name.bytes c.purpose_bytes-p.result.bytes c.args.work.now c.sift_in.new.work c.args.kind c.requires.named c.purpose_bytes-p.ensures c.sift_in.ensures
+returns c = ops.flight_dropped c.purpose_bytes.result c.args.work.now c.sift.new.work c.args.purpose c.requires.named c.purpose_bytes.ensures c.sift.ensures

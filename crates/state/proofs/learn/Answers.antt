@@ -1,18 +1,9 @@
 use Rattle.state.proofs.Columns as columns
 use Rattle.state.proofs.Ops as ops
-use native.Mathlib.Omega.{arith}
 use Rattle.state.proofs.learn.Goals as goal
 
-pub fill-requires : goal.fill-requires
-fill-requires c =
-    let a = (ops.named_long c.args.name.bytes c.requires.named) in
-    let b = c.write_be.auto.dst in
-    omega arith
-
-pub insert_in-requires : goal.insert_in-requires
-insert_in-requires c = let a = (ops.named_long c.args.name.bytes c.requires.named) in
-    let b = c.write_be.auto.dst in
-    record { lent = columns.has_lent ops.learned_column c.requires.has_state; slot_len = (c.fill.auto.slot, omega arith, omega arith) }
+pub insert-requires-clause-lent : goal.insert-requires-clause-lent
+insert-requires-clause-lent c = columns.has_lent ops.learned_column c.requires.has_state
 
 pub returns : goal.returns
-returns c = ops.learn_tries c.args.name.bytes c.write_be.new.dst c.fill.new.slot c.args.work.now c.insert_in.new.work _ c.args.n c.ranges.n.fits c.requires.named c.write_be.ensures c.fill.ensures c.insert_in.ensures
+returns c = ops.learn_tries c.args.name.bytes c.to_be_bytes.result c.slot-slot.result c.args.work.now c.insert.new.work _ c.args.n c.ranges.n.fits c.requires.named c.to_be_bytes.ensures c.slot-slot.ensures c.insert.ensures

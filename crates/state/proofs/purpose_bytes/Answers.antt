@@ -1,14 +1,18 @@
+use mathlib.Core.Path.{sym, ap, ◌∙◌}
 use Rattle.state.proofs.Ops as ops
-use native.Mathlib.Omega.{arith}
 use Rattle.state.proofs.purpose_bytes.Goals as goal
 
-pub returns-then-first-eq0 : goal.returns-then-first-eq0
-returns-then-first-eq0 c = ops.no_name c.args.kind c.args.name.bytes _ c.byte_of-first.ensures c.if-first-eq0.true
+pub returns-in-List : goal.returns-in-List
+returns-in-List c = ops.purpose_is c.args.purpose _ c.requires (ap ops.purpose_slot (sym c.in-List.is))
 
-pub fill-requires : goal.fill-requires
-fill-requires c =
-    let a = ops.named_long c.args.name.bytes c.requires in
-    omega arith
+pub returns-in-PassRead : goal.returns-in-PassRead
+returns-in-PassRead c = ops.purpose_is c.args.purpose c.slot.result c.requires (c.slot.ensures ∙ ap ops.purpose_slot (sym c.in-PassRead.is))
 
-pub returns : goal.returns
-returns c = ops.with_name c.args.kind c.args.name.bytes c.fill.new.slot _ c.byte_of-first.ensures c.if-first-eq0.false c.requires c.fill.ensures
+pub returns-in-EditRead : goal.returns-in-EditRead
+returns-in-EditRead c = ops.purpose_is c.args.purpose c.slot-in-EditRead.result c.requires (c.slot-in-EditRead.ensures ∙ ap ops.purpose_slot (sym c.in-EditRead.is))
+
+pub returns-in-EditWrite : goal.returns-in-EditWrite
+returns-in-EditWrite c = ops.purpose_is c.args.purpose c.slot-in-EditWrite.result c.requires (c.slot-in-EditWrite.ensures ∙ ap ops.purpose_slot (sym c.in-EditWrite.is))
+
+pub returns-in-Refresh : goal.returns-in-Refresh
+returns-in-Refresh c = ops.purpose_is c.args.purpose c.slot-in-Refresh.result c.requires (c.slot-in-Refresh.ensures ∙ ap ops.purpose_slot (sym c.in-Refresh.is))

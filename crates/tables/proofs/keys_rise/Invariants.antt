@@ -1,11 +1,6 @@
-use Rattle.tables.specs.Table.{chunks, slots_of, rising}
-use mathlib.Core.Path.{◌≡◌}
-use Prim.Native.Nat.{◌+◌, ◌*◌, ◌≤◌}
-use lib.ListN.{length, drop}
+use Rattle.std.proofs.Common.{◌≡◌, ◌-◌, drop}
+use Rattle.tables.specs.Table.{slots_of, rising}
 use Rattle.tables.proofs.keys_rise.Given as goal
 
-abbrev pub invariant-loop-left : goal.invariant-loop-left
-invariant-loop-left l = (l.at + l.left * l.stride ≤ length l.region) × (rising (slots_of l.stride l.region) ≡ rising (chunks l.stride l.left (drop l.at l.region)))
-
-abbrev pub decreases-loop-left : goal.decreases-loop-left
-decreases-loop-left l = l.left
+abbrev pub invariant-loop-i : goal.invariant-loop-i
+invariant-loop-i l = rising (slots_of l.stride l.region) ≡ rising (drop (l.i - 1) (slots_of l.stride l.region))

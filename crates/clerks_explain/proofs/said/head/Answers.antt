@@ -1,5 +1,5 @@
-use Rattle.phrases.proofs.Printed.{plain_shown, shows_wrote, shows_then, ready_start}
+use Rattle.phrases.proofs.Printed.{plain_shows, shows_then, ready_start}
 use Rattle.clerks_explain.proofs.said.head.Goals as goal
 
 pub returns : goal.returns
-returns c = (shows_then (shows_wrote c.part.ensures (plain_shown _ c.requires.0)) (shows_wrote c.part-2.ensures (plain_shown _ c.requires.1))).shows (ready_start _)
+returns c = (shows_then (plain_shows c.part.ensures c.requires.plain_what) (plain_shows c.part-2.ensures c.requires.plain_then)).shows (ready_start _)

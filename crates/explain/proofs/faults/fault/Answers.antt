@@ -1,11 +1,11 @@
-use Rattle.phrases.proofs.Printed.{plain_shown, shows_wrote, shows_then, shows_decimal}
+use Rattle.phrases.proofs.Printed.{plain_shows, shows_then, shows_decimal}
 use Rattle.explain.proofs.faults.fault.Goals as goal
 
-pub returns-then-line-eq0 : goal.returns-then-line-eq0
-returns-then-line-eq0 c = shows_wrote c.part.ensures (plain_shown _ tt)
+pub returns-then-is_empty : goal.returns-then-is_empty
+returns-then-is_empty c = plain_shows c.part.ensures tt
 
 pub returns-then-line-gt-MAX_DIGITS : goal.returns-then-line-gt-MAX_DIGITS
-returns-then-line-gt-MAX_DIGITS c = shows_wrote c.part-then-line-gt-MAX_DIGITS.ensures (plain_shown _ tt)
+returns-then-line-gt-MAX_DIGITS c = plain_shows c.part-then-line-gt-MAX_DIGITS.ensures tt
 
-pub returns : goal.returns
-returns c = shows_then (shows_wrote c.part-odd.ensures (plain_shown _ tt)) (shows_decimal c.decimal.ensures)
+pub returns-in-None : goal.returns-in-None
+returns-in-None c = shows_then (plain_shows c.part-odd.ensures tt) (shows_decimal c.decimal.ensures)

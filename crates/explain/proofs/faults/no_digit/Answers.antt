@@ -1,5 +1,5 @@
-use Rattle.phrases.proofs.Printed.{plain_shown, shows_wrote, shows_then, shows_decimal}
+use Rattle.phrases.proofs.Printed.{plain_shows, shows_then, shows_decimal}
 use Rattle.explain.proofs.faults.no_digit.Goals as goal
 
 pub returns : goal.returns
-returns c = shows_then (shows_wrote c.part.ensures (plain_shown _ tt)) (shows_then (shows_decimal c.decimal-column.ensures) (shows_then (shows_wrote c.part-2.ensures (plain_shown _ tt)) (shows_then c.quoted-shown.ensures (shows_wrote c.part-3.ensures (plain_shown _ tt)))))
+returns c = shows_then (plain_shows c.part.ensures tt) (shows_then (shows_decimal c.decimal-column.ensures) (shows_then (plain_shows c.part-2.ensures tt) (shows_then c.quoted-shown.ensures (plain_shows c.part-3.ensures tt))))

@@ -1,20 +1,19 @@
-use Rattle.observe.proofs.Forgetting as forgetting
-use mathlib.Core.Path.{refl}
 use native.Mathlib.Omega.{arith}
 use Rattle.state.proofs.Retaining as retaining
+use Rattle.observe.proofs.Forgetting as forgetting
 use Rattle.observe.proofs.forget.forget_aliases.Goals as goal
 
-pub loop-left-init : goal.loop-left-init
-loop-left-init c = (refl, forgetting.retain_start c.args.work.now _ c.alias_count-left.ensures)
+pub loop-init : goal.loop-init
+loop-init c = forgetting.retain_start c.args.work.now _ c.alias_count-count.ensures
 
 pub forget_alias-i-requires : goal.forget_alias-i-requires
-forget_alias-i-requires c = record { has_state = retaining.retain_has c.args.work.now c.loop-left.work c.loop-left.i c.loop-left.left c.requires c.loop-left.invariant.1; i_bound = forgetting.retain_below c.args.work.now c.loop-left.work c.loop-left.i c.loop-left.left c.requires c.loop-left.invariant.1 c.loop-left-test.true }
+forget_alias-i-requires c = record {
+  has_state = retaining.retain_has c.args.work.now c.loop.work c.loop.i _ c.requires c.loop.invariant;
+  i_bound = forgetting.retain_below c.args.work.now c.loop.work c.loop.i c.alias_count-count.result c.loop.counter c.requires c.loop.invariant c.loop-test.true;
+}
 
-pub loop-left-preserved : goal.loop-left-preserved
-loop-left-preserved c = ((let k = c.forget_alias-i.auto.work in let e = c.loop-left.invariant.0 in omega arith), forgetting.retain_turn c.args.work.now c.loop-left.work c.forget_alias-i.new.work c.loop-left.i c.loop-left.left _ c.loop-left.invariant.1 c.loop-left-test.true c.forget_alias-i.ensures)
-
-pub shape_of-work : goal.shape_of-work
-shape_of-work c = c.loop-left.invariant.0
+pub loop-preserved : goal.loop-preserved
+loop-preserved c = forgetting.retain_turn c.args.work.now c.loop.work c.forget_alias-i.new.work c.loop.i c.alias_count-count.result c.loop.counter _ c.loop.invariant c.loop-test.true c.forget_alias-i.ensures
 
 pub returns : goal.returns
-returns c = retaining.retain_end c.args.work.now c.loop-left.work c.loop-left.i c.loop-left.left c.loop-left-test.false c.loop-left.invariant.1
+returns c = retaining.retain_end c.args.work.now c.loop.work c.loop.i _ (let l = c.loop-test.false in omega arith) c.loop.invariant

@@ -3,4 +3,4 @@ use Rattle.machine.proofs.Steps as steps
 use Rattle.observe.proofs.open_pass.watch.Goals as goal
 
 pub returns : goal.returns
-returns c = steps.changed c.tried.ensures (reading.watched_tries c.args.p _ c.add_observed-within.ensures)
+returns c = steps.changed c.tried.ensures (reading.watched_tries c.args.p _ c.add-within.ensures)

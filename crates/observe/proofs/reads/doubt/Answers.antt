@@ -17,7 +17,7 @@ pub returns-then-asks : goal.returns-then-asks
 returns-then-asks c = reading.doubt_asked _ c.args.out.now c.learn-q.ensures c.is_open.ensures c.if-is_open.false c.asks.ensures c.if-asks.true
 
 pub request_read-requires : goal.request_read-requires
-request_read-requires c = record { has_state = (c.learn-q.ensures.does c.args.out.now).state c.requires.has_state; named = c.requires.named }
+request_read-requires c = record { has_state = (c.learn-q.ensures.does c.args.out.now).state c.requires.has_state; named = (c.requires.named, c.requires.named) }
 
 pub returns : goal.returns
 returns c = reading.doubt_again _ c.learn-q.ensures c.is_open.ensures c.if-is_open.false c.asks.ensures c.if-asks.false c.request_read.ensures

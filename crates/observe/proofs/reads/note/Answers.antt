@@ -1,30 +1,19 @@
-use Rattle.observe.proofs.Reading as reading
+use Prim.Native.Nat.{◌<◌}
 use native.Mathlib.Omega.{arith}
+use lib.ListN.{length}
+use Rattle.observe.proofs.Reading as reading
 use Rattle.observe.proofs.reads.note.Goals as goal
 
-pub returns-then-asks : goal.returns-then-asks
-returns-then-asks c = reading.noted_asked c.args.work.now c.args.names.now c.staged_name-name.result.bytes c.args.i c.args.n _ _ c.requires.i_bound.0 c.requires.i_bound.1 c.staged_kind-kind.ensures c.in-Unread.is c.staged_name-name.ensures.reads c.asks.ensures c.if-asks.true
+pub push-requires : goal.push-requires
+push-requires c =
+    let h : length c.args.names.now < 10 = reading.few c.args.work.now c.args.names.now c.args.i c.requires.has_state c.requires.i_bound.0 c.requires.i_bound.1 in
+    (omega arith, h)
 
-pub overflow_mul-n : goal.overflow_mul-n
-overflow_mul-n c =
-    let h = reading.name_room c.args.work.now c.args.names.now c.staged_name-name.result.bytes c.args.i c.args.n c.requires.has_state c.requires.i_bound.0 c.requires.i_bound.1 c.staged_name-name.ensures.named in
-    omega arith
+pub returns-then-not-asks : goal.returns-then-not-asks
+returns-then-not-asks c = rw c.push.ensures (reading.noted_one c.args.work.now c.staged_name-name.result.bytes c.args.names.now c.args.i c.entry.result c.asks.result c.requires.i_bound.0 c.requires.i_bound.1 c.entry.ensures c.in-Unread.is c.staged_name-name.ensures.reads c.asks.ensures c.if-not-asks.true)
 
-pub put_slot-requires : goal.put_slot-requires
-put_slot-requires c =
-    let h = reading.name_room c.args.work.now c.args.names.now c.staged_name-name.result.bytes c.args.i c.args.n c.requires.has_state c.requires.i_bound.0 c.requires.i_bound.1 c.staged_name-name.ensures.named in
-    h.2
+pub returns-else-not-asks : goal.returns-else-not-asks
+returns-else-not-asks c = reading.noted_asked c.args.work.now c.staged_name-name.result.bytes c.args.names.now c.args.i c.entry.result c.asks.result c.requires.i_bound.0 c.requires.i_bound.1 c.entry.ensures c.in-Unread.is c.staged_name-name.ensures.reads c.asks.ensures c.if-not-asks.false
 
-pub overflow_add-result : goal.overflow_add-result
-overflow_add-result c =
-    let h = reading.name_room c.args.work.now c.args.names.now c.staged_name-name.result.bytes c.args.i c.args.n c.requires.has_state c.requires.i_bound.0 c.requires.i_bound.1 c.staged_name-name.ensures.named in
-    omega arith
-
-pub returns-in-Unread : goal.returns-in-Unread
-returns-in-Unread c = reading.noted_one c.args.work.now c.args.names.now c.put_slot.new.region c.staged_name-name.result.bytes c.args.i c.args.n _ _ c.requires.has_state c.requires.i_bound.0 c.requires.i_bound.1 c.staged_kind-kind.ensures c.in-Unread.is c.staged_name-name.ensures.reads c.asks.ensures c.if-asks.false c.put_slot.auto.region c.put_slot.ensures
-
-pub returns-in-Present : goal.returns-in-Present
-returns-in-Present c = reading.noted_present c.args.work.now c.args.names.now c.args.i c.args.n _ c.requires.i_bound.0 c.requires.i_bound.1 c.staged_kind-kind.ensures c.in-Present.is
-
-pub returns-in-Removed : goal.returns-in-Removed
-returns-in-Removed c = reading.noted_removed c.args.work.now c.args.names.now c.args.i c.args.n _ c.requires.i_bound.0 c.requires.i_bound.1 c.staged_kind-kind.ensures c.in-Removed.is
+pub returns-in_default : goal.returns-in_default
+returns-in_default c = reading.noted_other c.args.work.now c.args.names.now c.args.i c.entry.result c.requires.i_bound.0 c.requires.i_bound.1 c.entry.ensures c.in_default.not-Unread

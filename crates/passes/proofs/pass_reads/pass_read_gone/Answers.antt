@@ -14,11 +14,11 @@ returns-then-doubtful c = answering.read_doubted c.args.id _ _ c.doubtful.ensure
 pub listed_unread-listed-requires : goal.listed_unread-listed-requires
 listed_unread-listed-requires c = record { has_state = c.requires.has_state; named = c.requires.named }
 
-pub remove_observed-requires : goal.remove_observed-requires
-remove_observed-requires c = record { has_state = observing.still c.observe_gone-q.ensures c.requires.has_state; named = c.requires.named }
+pub remove-requires : goal.remove-requires
+remove-requires c = record { has_state = observing.still c.observe_gone-q.ensures c.requires.has_state; named = c.requires.named }
 
 pub returns-then-listed : goal.returns-then-listed
-returns-then-listed c = answering.read_listed c.args.id _ _ c.doubtful.ensures c.if-doubtful.false c.listed_unread-listed.ensures c.observe_gone-q.ensures c.if-listed.true c.remove_observed.ensures
+returns-then-listed c = answering.read_listed c.args.id _ _ c.doubtful.ensures c.if-doubtful.false c.listed_unread-listed.ensures c.observe_gone-q.ensures c.if-listed.true c.remove.ensures
 
-pub returns : goal.returns
-returns c = answering.read_unlisted c.args.id _ _ c.doubtful.ensures c.if-doubtful.false c.listed_unread-listed.ensures c.observe_gone-q.ensures c.if-listed.false
+pub returns-else-listed : goal.returns-else-listed
+returns-else-listed c = answering.read_unlisted c.args.id _ _ c.doubtful.ensures c.if-doubtful.false c.listed_unread-listed.ensures c.observe_gone-q.ensures c.if-listed.false

@@ -2,9 +2,6 @@ use Rattle.passes.proofs.Passing as passing
 use Rattle.observe.proofs.Observing as observing
 use Rattle.passes.proofs.requests.request_list.Goals as goal
 
-pub reserve-q-requires : goal.reserve-q-requires
-reserve-q-requires c = record { has_state = c.requires; named = passing.blank }
-
 pub ask_from-pen-requires : goal.ask_from-pen-requires
 ask_from-pen-requires c = observing.still c.reserve-q.ensures c.requires
 

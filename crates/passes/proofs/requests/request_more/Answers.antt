@@ -2,9 +2,6 @@ use Rattle.machine.proofs.Steps as steps
 use Rattle.passes.proofs.Passing as passing
 use Rattle.passes.proofs.requests.request_more.Goals as goal
 
-pub reserve-q-requires : goal.reserve-q-requires
-reserve-q-requires c = record { has_state = c.requires.has_state; named = passing.blank }
-
 pub list_continue-pen-requires : goal.list_continue-pen-requires
 list_continue-pen-requires c = passing.short_enough c.args.cursor.now c.requires.ok
 

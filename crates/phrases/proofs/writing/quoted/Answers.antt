@@ -1,5 +1,5 @@
-use Rattle.phrases.proofs.Printed.{plain_shown, shows_wrote, shows_then}
+use Rattle.phrases.proofs.Printed.{plain_shows, shows_then}
 use Rattle.phrases.proofs.writing.quoted.Goals as goal
 
 pub returns : goal.returns
-returns c = shows_then (shows_wrote c.byte-open.ensures (plain_shown _ tt)) (shows_then c.shown-said.ensures (shows_wrote c.byte.ensures (plain_shown _ tt)))
+returns c = shows_then (plain_shows c.byte-open.ensures tt) (shows_then c.shown-said.ensures (plain_shows c.byte.ensures tt))

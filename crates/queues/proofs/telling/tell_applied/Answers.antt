@@ -9,12 +9,12 @@ use native.Mathlib.Omega.{arith}
 use Rattle.queues.proofs.telling.tell_applied.Goals as goal
 
 pub overflow_add-at : goal.overflow_add-at
-overflow_add-at c = let h = heads.keyed_room c.args.j (name_of c.args.name.bytes) c.args.work.now c.in-Found.at c.find_entry-place.result c.requires.has_state c.find_entry-place.ensures c.in-Found.is in
+overflow_add-at c = let h = heads.keyed_room c.args.j (name_of c.args.name.bytes) c.args.work.now c.in-Some.at c.find_entry.result c.requires.has_state c.find_entry.ensures c.in-Some.is in
     let L = c.requires.has_state.keeps.long in
     omega arith
 
-pub overflow_add-at-in-Found : goal.overflow_add-at-in-Found
-overflow_add-at-in-Found c = let h = heads.keyed_room c.args.j (name_of c.args.name.bytes) c.args.work.now c.in-Found.at c.find_entry-place.result c.requires.has_state c.find_entry-place.ensures c.in-Found.is in
+pub overflow_add-at-in-Some : goal.overflow_add-at-in-Some
+overflow_add-at-in-Some c = let h = heads.keyed_room c.args.j (name_of c.args.name.bytes) c.args.work.now c.in-Some.at c.find_entry.result c.requires.has_state c.find_entry.ensures c.in-Some.is in
     let L = c.requires.has_state.keeps.long in
     omega arith
 
@@ -22,8 +22,8 @@ pub applied-pen-requires : goal.applied-pen-requires
 applied-pen-requires c = let L : length c.args.id.bytes ≡ 33 = search rules in
     parts.text_short _ _ c.text_of-edit.ensures L
 
-pub returns-in-Found : goal.returns-in-Found
-returns-in-Found c = notices.applied_sent c.args.j (name_of c.args.name.bytes) c.args.work.now c.in-Found.at c.find_entry-place.result c.find_entry-place.ensures (name_of c.args.id.bytes) c.in-Found.is c.conflicts_at-conflicts.ensures c.refused_at-refused.ensures c.text_of-edit.ensures c.pen_of.ensures c.applied-pen.ensures c.sent.ensures
+pub returns-in-Some : goal.returns-in-Some
+returns-in-Some c = notices.applied_sent c.args.j (name_of c.args.name.bytes) c.args.work.now c.find_entry.result c.find_entry.ensures c.in-Some.at (name_of c.args.id.bytes) c.in-Some.is c.conflicts_at-conflicts.ensures c.refused_at-refused.ensures c.text_of-edit.ensures c.pen_of.ensures c.applied-pen.ensures c.sent.ensures
 
-pub returns-in-Missing : goal.returns-in-Missing
-returns-in-Missing c = notices.applied_none c.args.j (name_of c.args.name.bytes) c.args.work.now c.in-Missing._at c.find_entry-place.result c.find_entry-place.ensures (name_of c.args.id.bytes) c.args.out.now c.args.p c.in-Missing.is
+pub returns-in-None : goal.returns-in-None
+returns-in-None c = notices.applied_none c.args.j (name_of c.args.name.bytes) c.args.work.now c.find_entry.result c.find_entry.ensures (name_of c.args.id.bytes) c.args.out.now c.args.p c.in-None.is

@@ -1,19 +1,28 @@
-use mathlib.Core.Bool.{not}
-use mathlib.Core.Path.{ap}
-use mathlib.Core.Path.{sym, ◌∙◌}
-use borrow.Author.Tests.{not-true, not-false}
+use Rattle.std.proofs.Common.{◌≡◌, ◌+◌, ◌-◌, take, drop, length, ap, sym, subst, ◌∙◌, arith}
+use Rattle.lent.proofs.Laws as lent
 use Rattle.tables.proofs.Laws as tables
-use Rattle.regions.proofs.Slots as slots
+use Rattle.strides.proofs.Walks.{callable, all_is}
+use Rattle.regions.specs.Inside.{TableIn}
 use Rattle.regions.proofs.table.table_in.Goals as goal
 
 pub is_table-requires : goal.is_table-requires
-is_table-requires c = slots.table_asks c.args.kind c.args.limit c.stride_of-step.result c.key_width_of-width.result c.args.region.now c.stride_of-step.ensures c.key_width_of-width.ensures c.requires
+is_table-requires g c =
+    let l : length (take (c.args.region.at + c.args.region.length - c.args.region.at) (drop c.args.region.at c.args.b.now)) ≡ c.args.region.length = ap length (sym (lent.part_is c.args.region.at c.args.region.length c.args.b.now)) ∙ tables.part_length c.args.b.now c.args.region.at c.args.region.length c.requires.inside in
+    (c.requires.slots.0, c.requires.slots.1, omega (arith, c.requires.slots.2, l))
 
-pub returns-then-not-is_table : goal.returns-then-not-is_table
-returns-then-not-is_table c = (λ e. absurd (tables.false_true e), λ I. sym (not-true c.is_table.result (ap not c.if-not-is_table.true)) ∙ c.is_table.ensures.1 (slots.table_own c.args.kind c.args.limit c.stride_of-step.result c.key_width_of-width.result c.args.region.now c.stride_of-step.ensures c.key_width_of-width.ensures I))
+pub slots-requires : goal.slots-requires
+slots-requires g c =
+    let l : length (take (c.args.region.at + c.args.region.length - c.args.region.at) (drop c.args.region.at c.args.b.now)) ≡ c.args.region.length = ap length (sym (lent.part_is c.args.region.at c.args.region.length c.args.b.now)) ∙ tables.part_length c.args.b.now c.args.region.at c.args.region.length c.requires.inside in
+    tables.holds_of c.args.region.stride c.args.width c.args.region.limit _ c.requires.slots.0 c.requires.slots.1 (omega (arith, c.requires.slots.2, l)) (tables.table_few (c.is_table.ensures.0 c.if-is_table.true))
 
-pub slots_in-requires : goal.slots_in-requires
-slots_in-requires c = record { holds = slots.table_holds c.args.kind c.args.limit c.stride_of-step.result c.key_width_of-width.result c.args.region.now c.stride_of-step.ensures c.key_width_of-width.ensures (c.is_table.ensures.0 (not-false c.is_table.result (ap not c.if-not-is_table.false))) c.requires; step_value = c.stride_of-step.ensures }
+pub all-requires-clause-callable : goal.all-requires-clause-callable
+all-requires-clause-callable g c = callable _ _ _ _ c.args.region.stride c.slots.ensures.size (λ q x l. c.requires.takes q x l)
 
-pub returns : goal.returns
-returns c = (λ e. slots.table_yes c.args.kind c.args.limit c.stride_of-step.result c.key_width_of-width.result c.args.region.now c.stride_of-step.ensures c.key_width_of-width.ensures (c.is_table.ensures.0 (not-false c.is_table.result (ap not c.if-not-is_table.false))) (sym c.slots_in.ensures ∙ e), λ I. c.slots_in.ensures ∙ slots.table_slots c.args.kind c.args.limit c.stride_of-step.result c.key_width_of-width.result c.args.region.now c.stride_of-step.ensures c.key_width_of-width.ensures I)
+pub returns-then-is_table : goal.returns-then-is_table
+returns-then-is_table g c = λ test computes.
+    let e = all_is test c.args.region.stride (λ x l b q k. (g.met.F.Fn.1.step_stays _ _ _ _ k, computes x b l ((g.met.F.FnMut.1.post_iff _ _ _).1 (q, k)))) c.slots.ensures.size c.slots.ensures.gives c.all.ensures.ran in
+    let p = lent.part_is c.args.region.at c.args.region.length c.args.b.now in
+    let in_part = TableIn c.args.region.stride c.args.width test c.args.region.limit in (
+      (λ y. subst in_part (sym p) (record { table = c.is_table.ensures.0 c.if-is_table.true; slots = sym e ∙ y })),
+      (λ I. e ∙ (subst in_part p I).slots),
+    )

@@ -1,12 +1,8 @@
-use Prim.Native.Nat.{◌+◌, ◌-◌}
+use Rattle.std.proofs.Common.{◌+◌}
 use Rattle.numbers.specs.Big.{to_be}
-use Rattle.sender_turns.specs.Sender.{lane_size}
 use Rattle.sender_bytes.specs.Bytes.{number_bytes}
 use Rattle.sender_bytes.proofs.PlaceLaws.{Written}
 use Rattle.sender_bytes.proofs.write.put_lane.Given as goal
 
 abbrev pub invariant-loop-i : goal.invariant-loop-i
-invariant-loop-i l = Written number_bytes (to_be number_bytes) l.lane.numbers (l.at + 1) l.initial.bytes l.bytes l.i l.next
-
-abbrev pub decreases-loop-i : goal.decreases-loop-i
-decreases-loop-i l = lane_size - l.i
+invariant-loop-i l = Written number_bytes (to_be number_bytes) l.lane.numbers (l.at + 1) l.initial.bytes l.bytes l.i

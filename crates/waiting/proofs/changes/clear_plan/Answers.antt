@@ -1,5 +1,5 @@
-use Rattle.waiting.proofs.Laws as laws
 use Rattle.state.specs.Values.{name_of}
+use Rattle.waiting.proofs.Laws as laws
 use Rattle.waiting.proofs.changes.clear_plan.Goals as goal
 
 pub returns : goal.returns

@@ -8,4 +8,4 @@ pub tally-requires : goal.tally-requires
 tally-requires c = record { holds = tables.tab_holds (lent.lent_tab (splices.has_lent c.requires.has_slots)); key_nonzero = c.requires.key_nonzero }
 
 pub returns : goal.returns
-returns c = laws.tallied_in c.args.equal c.args.key.now c.args.work.now _ c.tally.ensures
+returns c = laws.tallied_in c.args.rank c.args.key.now c.args.work.now _ c.tally.ensures

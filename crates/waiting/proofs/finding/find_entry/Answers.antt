@@ -1,31 +1,12 @@
-use Rattle.waiting.proofs.Laws as laws
 use Rattle.state.specs.Values.{name_of}
-use native.Mathlib.Omega.{arith}
-use borrow.Author.Rules.{rules}
+use Rattle.waiting.proofs.Laws as laws
 use Rattle.waiting.proofs.finding.find_entry.Goals as goal
 
-pub returns-then-n-j : goal.returns-then-n-j
-returns-then-n-j c = laws.not_there _ c.args.work.now c.waiting_count-n.result c.args.j _ c.waiting_count-n.ensures (search rules)
+pub returns-in_err-i : goal.returns-in_err-i
+returns-in_err-i c = laws.not_there (name_of c.args.name.bytes) c.args.work.now c.args.j _ c.in_err-i.ensures c.from_residual.ensures
 
-pub overflow_add-i : goal.overflow_add-i
-overflow_add-i c =
-    let b = laws.index_below (name_of c.args.name.bytes) c.args.work.now c.waiting_count-n.result c.entries_before.result c.args.j c.requires.has_state c.waiting_count-n.ensures c.entries_before.ensures (search rules) in
-    omega arith
-
-pub overflow_mul-result : goal.overflow_mul-result
-overflow_mul-result c =
-    let b = laws.index_below (name_of c.args.name.bytes) c.args.work.now c.waiting_count-n.result c.entries_before.result c.args.j c.requires.has_state c.waiting_count-n.ensures c.entries_before.ensures (search rules) in
-    omega arith
-
-pub overflow_add-result : goal.overflow_add-result
-overflow_add-result c =
-    let b = laws.index_below (name_of c.args.name.bytes) c.args.work.now c.waiting_count-n.result c.entries_before.result c.args.j c.requires.has_state c.waiting_count-n.ensures c.entries_before.ensures (search rules) in
-    omega arith
-
-pub overflow_add-result-2 : goal.overflow_add-result-2
-overflow_add-result-2 c =
-    let b = laws.index_below (name_of c.args.name.bytes) c.args.work.now c.waiting_count-n.result c.entries_before.result c.args.j c.requires.has_state c.waiting_count-n.ensures c.entries_before.ensures (search rules) in
-    omega arith
+pub slot_at-requires : goal.slot_at-requires
+slot_at-requires c = laws.index_below (name_of c.args.name.bytes) c.args.work.now c.in_ok-i.i c.args.j c.requires.has_state (laws.slot_is _ _ _ _ c.in_ok-i.ensures)
 
 pub returns : goal.returns
-returns c = laws.found _ c.args.work.now c.waiting_count-n.result c.entries_before.result c.args.j c.requires.named.ok c.waiting_count-n.ensures c.entries_before.ensures (search rules)
+returns c = laws.found (name_of c.args.name.bytes) c.args.work.now c.in_ok-i.i c.args.j _ c.requires.named.ok (laws.slot_is _ _ _ _ c.in_ok-i.ensures) c.slot_at.ensures

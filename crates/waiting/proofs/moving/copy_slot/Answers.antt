@@ -1,5 +1,7 @@
-use Rattle.waiting.proofs.Moves as moves
+use Rattle.std.proofs.Common.{◌∙◌, ◌-◌, ◌+◌, ◌≡◌, ℕ, ap, take, drop, arith}
 use Rattle.waiting.proofs.moving.copy_slot.Goals as goal
 
 pub returns : goal.returns
-returns c = moves.copied c.args.slot.now c.args.work.now c.copy_into.new.dst c.args.at c.requires.0 c.requires.1 c.copy_into.ensures
+returns c =
+    let n : c.args.at + 5940 - c.args.at ≡ 5940 = omega arith in
+    c.copy_from_slice.ensures.after ∙ ap (λ (k : ℕ). take k (drop c.args.at c.args.work.now)) n

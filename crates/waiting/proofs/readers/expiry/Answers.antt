@@ -1,46 +1,22 @@
+use Rattle.std.proofs.Common.{arith}
 use Rattle.state.specs.Values.{name_of}
 use Rattle.waiting.proofs.Reading as reading
-use native.Mathlib.Omega.{arith}
 use Rattle.waiting.proofs.readers.expiry.Goals as goal
 
-pub returns-then-set-eq0 : goal.returns-then-set-eq0
-returns-then-set-eq0 c = reading.expiry_none (name_of c.args.name.bytes) c.args.work.now c.entry_byte-set.result c.args.j c.requires.named.ok c.entry_byte-set.ensures c.if-set-eq0.true
+pub returns-in_err-at : goal.returns-in_err-at
+returns-in_err-at c = reading.expiry_none (name_of c.args.name.bytes) c.args.work.now c.args.j _ c.in_err-at.ensures c.from_residual.ensures
 
-pub overflow_add-i : goal.overflow_add-i
-overflow_add-i c =
-    let b = reading.there_below (name_of c.args.name.bytes) c.args.work.now c.entries_before.result c.args.j 1569 0 c.entry_byte-set.result c.requires.has_state c.entry_byte-set.ensures c.entries_before.ensures c.if-set-eq0.false in
-    let L = c.requires.has_state.keeps.long in
-    omega arith
+pub overflow_add-at : goal.overflow_add-at
+overflow_add-at c = omega (arith, reading.entry_room c.requires.has_state c.in_ok-at.ensures)
 
-pub overflow_mul-p : goal.overflow_mul-p
-overflow_mul-p c =
-    let b = reading.there_below (name_of c.args.name.bytes) c.args.work.now c.entries_before.result c.args.j 1569 0 c.entry_byte-set.result c.requires.has_state c.entry_byte-set.ensures c.entries_before.ensures c.if-set-eq0.false in
-    let L = c.requires.has_state.keeps.long in
-    omega arith
+pub bounds-work-at : goal.bounds-work-at
+bounds-work-at c = omega (arith, reading.entry_room c.requires.has_state c.in_ok-at.ensures, c.requires.has_state.keeps.long)
 
-pub overflow_add-p : goal.overflow_add-p
-overflow_add-p c =
-    let b = reading.there_below (name_of c.args.name.bytes) c.args.work.now c.entries_before.result c.args.j 1569 0 c.entry_byte-set.result c.requires.has_state c.entry_byte-set.ensures c.entries_before.ensures c.if-set-eq0.false in
-    let L = c.requires.has_state.keeps.long in
-    omega arith
+pub returns-then-work-at-eq0 : goal.returns-then-work-at-eq0
+returns-then-work-at-eq0 c = reading.expiry_unset (name_of c.args.name.bytes) c.args.work.now c.args.j c.in_ok-at.field-0 c.in_ok-at.ensures c.if-work-at-eq0.true
 
-pub overflow_add-p-2 : goal.overflow_add-p-2
-overflow_add-p-2 c =
-    let b = reading.there_below (name_of c.args.name.bytes) c.args.work.now c.entries_before.result c.args.j 1569 0 c.entry_byte-set.result c.requires.has_state c.entry_byte-set.ensures c.entries_before.ensures c.if-set-eq0.false in
-    let L = c.requires.has_state.keeps.long in
-    omega arith
-
-pub overflow_add-p-3 : goal.overflow_add-p-3
-overflow_add-p-3 c =
-    let b = reading.there_below (name_of c.args.name.bytes) c.args.work.now c.entries_before.result c.args.j 1569 0 c.entry_byte-set.result c.requires.has_state c.entry_byte-set.ensures c.entries_before.ensures c.if-set-eq0.false in
-    let L = c.requires.has_state.keeps.long in
-    omega arith
-
-pub get_be-bits-requires : goal.get_be-bits-requires
-get_be-bits-requires c =
-    let b = reading.there_below (name_of c.args.name.bytes) c.args.work.now c.entries_before.result c.args.j 1569 0 c.entry_byte-set.result c.requires.has_state c.entry_byte-set.ensures c.entries_before.ensures c.if-set-eq0.false in
-    let L = c.requires.has_state.keeps.long in
-    omega arith
+pub get_be-requires : goal.get_be-requires
+get_be-requires c = omega (arith, reading.entry_room c.requires.has_state c.in_ok-at.ensures, c.requires.has_state.keeps.long)
 
 pub returns : goal.returns
-returns c = reading.expiry_some (name_of c.args.name.bytes) c.args.work.now c.entry_byte-set.result c.entries_before.result c.args.j _ c.requires.named.ok c.entry_byte-set.ensures c.entries_before.ensures c.if-set-eq0.false c.get_be-bits.ensures
+returns c = reading.expiry_set (name_of c.args.name.bytes) c.args.work.now c.args.j c.in_ok-at.field-0 c.in_ok-at.ensures c.get_be.result c.cast_signed.result c.get_be.type_inv c.if-work-at-eq0.false c.get_be.ensures c.cast_signed.ensures

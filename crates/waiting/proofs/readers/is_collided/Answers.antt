@@ -1,6 +1,9 @@
+use Rattle.std.proofs.Common.{◌≡◌, rules, tests}
 use Rattle.state.specs.Values.{name_of}
 use Rattle.waiting.proofs.Reading as reading
 use Rattle.waiting.proofs.readers.is_collided.Goals as goal
 
 pub returns : goal.returns
-returns c = reading.collided_read (name_of c.args.name.bytes) c.args.work.now c.entry_byte-collided.result c.args.j c.requires.named.ok c.entry_byte-collided.ensures
+returns c =
+    let h : c.is_some_and.result ≡ reading.is_one c.entry_byte.result = search (rules, tests) in
+    reading.told h (reading.collided_read (name_of c.args.name.bytes) c.args.work.now c.entry_byte.result c.args.j c.requires.named.ok c.entry_byte.ensures)

@@ -1,6 +1,5 @@
-use mathlib.Core.Path.{refl}
+use Rattle.std.proofs.Common.{arith, refl}
 use Rattle.waiting.proofs.Writes as writes
-use native.Mathlib.Omega.{arith}
 use Rattle.waiting.proofs.slots.open_entry.Goals as goal
 
 pub open_slot-requires : goal.open_slot-requires

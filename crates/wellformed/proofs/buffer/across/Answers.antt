@@ -1,8 +1,11 @@
 use Rattle.wellformed.proofs.States.{flights_hold, entries_hold, across_is}
 use Rattle.wellformed.proofs.buffer.across.Goals as goal
 
-pub agree_at-requires : goal.agree_at-requires
-agree_at-requires c = record { flights_in_bounds = flights_hold c.requires.keeps; entries_in_bounds = entries_hold c.requires.keeps }
+pub agree-requires-clause-holds : goal.agree-requires-clause-holds
+agree-requires-clause-holds c = (flights_hold c.requires.keeps).1
+
+pub agree-requires-clause-holds_2 : goal.agree-requires-clause-holds_2
+agree-requires-clause-holds_2 c = (entries_hold c.requires.keeps).1
 
 pub returns : goal.returns
-returns c = across_is c.args.state.now c.next_request-n.result _ c.next_request-n.ensures c.agree_at.ensures
+returns c = across_is c.args.state.now c.next_request.result _ c.next_request.ensures c.agree.ensures

@@ -1,8 +1,9 @@
-use Rattle.wellformed.proofs.FieldLaws.{padded_by}
-use Rattle.format.proofs.FormatLaws.{list_law}
-use Rattle.model.proofs.FormatsLaws.{short_text_law}
-use borrow.Author.Rules.{rules}
+use Rattle.std.proofs.Common.{rules, ◌∙◌}
+use Rattle.format.specs.Format.{list}
+use Rattle.model.specs.Formats.{short_text}
+use Rattle.reader.specs.Left.{after}
+use Rattle.wellformed.proofs.FieldLaws.{in_width_is}
 use Rattle.wellformed.proofs.slot.absorbed.Goals as goal
 
 pub returns : goal.returns
-returns c = padded_by (list_law short_text_law 8) 265 (search rules) c.args.s.now c.args.place c.edit_ids-next.ensures c.filled.ensures
+returns c = c.padded.ensures (after (list 8 short_text)) (λ x r p. search rules) ∙ in_width_is 265 (list 8 short_text) _

@@ -1,7 +1,8 @@
-use Rattle.wellformed.proofs.FieldLaws.{padded_by}
-use Rattle.model.proofs.FormatsLaws.{conflicts_f_law}
-use borrow.Author.Rules.{rules}
+use Rattle.std.proofs.Common.{rules, ◌∙◌}
+use Rattle.model.specs.Formats.{conflicts_f}
+use Rattle.reader.specs.Left.{after}
+use Rattle.wellformed.proofs.FieldLaws.{in_width_is}
 use Rattle.wellformed.proofs.slot.conflicts.Goals as goal
 
 pub returns : goal.returns
-returns c = padded_by conflicts_f_law 3072 (search rules) c.args.s.now c.args.place c.skip_conflicts-next.ensures c.filled.ensures
+returns c = c.padded.ensures (after conflicts_f) (λ x r p. search rules) ∙ in_width_is 3072 conflicts_f _

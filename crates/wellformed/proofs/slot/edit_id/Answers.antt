@@ -1,7 +1,8 @@
-use Rattle.wellformed.proofs.FieldLaws.{padded_by}
-use Rattle.model.proofs.FormatsLaws.{short_text_law}
-use borrow.Author.Rules.{rules}
+use Rattle.std.proofs.Common.{rules, ◌∙◌}
+use Rattle.model.specs.Formats.{short_text}
+use Rattle.reader.specs.Left.{after}
+use Rattle.wellformed.proofs.FieldLaws.{in_width_is}
 use Rattle.wellformed.proofs.slot.edit_id.Goals as goal
 
 pub returns : goal.returns
-returns c = padded_by short_text_law 33 (search rules) c.args.s.now c.args.place c.skip_short_text-next.ensures c.filled.ensures
+returns c = c.padded.ensures (after short_text) (λ x r p. search rules) ∙ in_width_is 33 short_text _

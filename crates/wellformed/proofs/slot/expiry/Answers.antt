@@ -1,7 +1,8 @@
-use Rattle.wellformed.proofs.FieldLaws.{padded_by}
-use Rattle.format.proofs.FormatLaws.{option_law, stamp_law}
-use borrow.Author.Rules.{rules}
+use Rattle.std.proofs.Common.{rules, ◌∙◌}
+use Rattle.format.specs.Format.{option, stamp}
+use Rattle.reader.specs.Left.{after}
+use Rattle.wellformed.proofs.FieldLaws.{in_width_is}
 use Rattle.wellformed.proofs.slot.expiry.Goals as goal
 
 pub returns : goal.returns
-returns c = padded_by (option_law stamp_law) 9 (search rules) c.args.s.now c.args.place c.expiry-read.ensures.place c.filled.ensures
+returns c = c.padded.ensures (after (option stamp)) (λ x r p. search rules) ∙ in_width_is 9 (option stamp) _

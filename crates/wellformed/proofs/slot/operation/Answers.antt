@@ -1,7 +1,8 @@
-use Rattle.wellformed.proofs.FieldLaws.{padded_by}
-use Rattle.model.proofs.FormatsLaws.{operation_f_law}
-use borrow.Author.Rules.{rules}
+use Rattle.std.proofs.Common.{rules, ◌∙◌}
+use Rattle.model.specs.Formats.{operation_f}
+use Rattle.reader.specs.Left.{after}
+use Rattle.wellformed.proofs.FieldLaws.{in_width_is}
 use Rattle.wellformed.proofs.slot.operation.Goals as goal
 
 pub returns : goal.returns
-returns c = padded_by operation_f_law 1469 (search rules) c.args.s.now c.args.place c.operation-read.ensures.place c.filled.ensures
+returns c = c.padded.ensures (after operation_f) (λ x r p. search rules) ∙ in_width_is 1469 operation_f _

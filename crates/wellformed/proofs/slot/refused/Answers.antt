@@ -1,7 +1,8 @@
-use Rattle.wellformed.proofs.FieldLaws.{padded_by}
-use Rattle.model.proofs.FormatsLaws.{refusals_f_law}
-use borrow.Author.Rules.{rules}
+use Rattle.std.proofs.Common.{rules, ◌∙◌}
+use Rattle.model.specs.Formats.{refusals_f}
+use Rattle.reader.specs.Left.{after}
+use Rattle.wellformed.proofs.FieldLaws.{in_width_is}
 use Rattle.wellformed.proofs.slot.refused.Goals as goal
 
 pub returns : goal.returns
-returns c = padded_by refusals_f_law 1024 (search rules) c.args.s.now c.args.place c.skip_refusals-next.ensures c.filled.ensures
+returns c = c.padded.ensures (after refusals_f) (λ x r p. search rules) ∙ in_width_is 1024 refusals_f _

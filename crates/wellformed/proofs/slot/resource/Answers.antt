@@ -1,7 +1,8 @@
-use Rattle.wellformed.proofs.FieldLaws.{padded_by}
-use Rattle.model.proofs.FormatsLaws.{resource_id_law}
-use borrow.Author.Rules.{rules}
+use Rattle.std.proofs.Common.{rules, ◌∙◌}
+use Rattle.model.specs.Formats.{resource_id}
+use Rattle.reader.specs.Left.{after}
+use Rattle.wellformed.proofs.FieldLaws.{in_width_is}
 use Rattle.wellformed.proofs.slot.resource.Goals as goal
 
 pub returns : goal.returns
-returns c = padded_by resource_id_law 33 (search rules) c.args.s.now c.args.place c.skip_resource_id-next.ensures c.filled.ensures
+returns c = c.padded.ensures (after resource_id) (λ x r p. search rules) ∙ in_width_is 33 resource_id _

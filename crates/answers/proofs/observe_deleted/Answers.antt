@@ -1,8 +1,0 @@
-use Rattle.answers.proofs.Writes as writes
-use Rattle.answers.proofs.observe_deleted.Goals as goal
-
-pub returns-then-doubtful : goal.returns-then-doubtful
-returns-then-doubtful c = writes.write_doubted _ _ _ c.doubtful.ensures c.if-doubtful.true c.doubt.ensures
-
-pub returns : goal.returns
-returns c = writes.write_observed _ _ _ c.doubtful.ensures c.if-doubtful.false (c.observe_gone.ensures.does _)

@@ -1,0 +1,2 @@
+-- What the walk over a table's slots gives.
+pub mod Walk

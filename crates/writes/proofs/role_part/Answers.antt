@@ -1,5 +1,0 @@
-use Rattle.writes.proofs.Merges as merges
-use Rattle.writes.proofs.role_part.Goals as goal
-
-pub returns : goal.returns
-returns c = merges.role_is _ _ _ c.part.ensures
