@@ -52,6 +52,14 @@ pub frame_even : (line : List ℕ) → length line ≤ 16384 → length line % 2
 unfolding frame_of
 frame_even line h e = rw (le-leb (length line) 16384 h) (ap held (undigits_pairs (length line / 2) line (omega arith)))
 
+-- a line whose whole pairs hold nothing, a digit left over or not
+pub frame_none : (line : List ℕ) → length line ≤ 16384 → [] ≡ held (bytes_of (first_chunks 2 (length line / 2) line)) → [] ≡ frame_of line
+frame_none line h e = go (length line % 2) refl
+  where
+    go : (r : ℕ) → length line % 2 ≡ r → [] ≡ frame_of line
+    go zero p = e ∙ sym (frame_even line h p)
+    go (suc r) p = frame_odd line (omega arith)
+
 -- some bytes, and then what else there is
 abbrev pub after : List ℕ → Option (List ℕ) → Option (List ℕ)
 after done (Some s) = Some (done ++ s)

@@ -45,15 +45,18 @@ pub fn frame_of(line: &[u8], frame: &mut [u8]) -> usize
     requires { max_frame ≤ length frame.old }
     ensures { (result ≤ max_frame) × (take result frame.new ≡ frame_of line.now) }
 {
-    let (pairs, odd) = line.as_chunks::<2>();
-    if MAX_DIGITS < line.len() || !odd.is_empty() {
+    if MAX_DIGITS < line.len() {
         return 0;
     }
+    let (pairs, odd) = line.as_chunks::<2>();
     for (n, [a, b]) in pairs.iter().enumerate() {
         let Some(byte) = byte_of(*a, *b) else {
             return 0;
         };
         frame[n] = byte;
+    }
+    if !odd.is_empty() {
+        return 0;
     }
     pairs.len()
 }
