@@ -1,4 +1,6 @@
 // Damaged copies of a good frame.
+ghost use Rattle.std.specs.Prelude.{◌≤◌};
+
 use frame::Parsed;
 use pens::Pen;
 use printing::{end, number, say};
@@ -22,7 +24,9 @@ fn accepted(out: &mut [u8], end: usize, at: usize, b: u8) -> bool {
 }
 
 // At how many other bytes at a place the first `end` bytes are a frame.
-fn values_at(out: &mut [u8], end: usize, at: usize) -> usize {
+fn values_at(out: &mut [u8], end: usize, at: usize) -> usize
+    ensures { result ≤ 256 }
+{
     let old = out.get(at).copied().unwrap_or(0);
     let found = (0..=u8::MAX)
         .filter(|b| *b != old && accepted(out, end, at, *b))
