@@ -1,6 +1,6 @@
 -- Laws of the attendees' part: one for each answer of each function, its premises the facts of the branches. Assumes nothing.
 use Rattle.std.specs.Prelude.{Some, None}
-use Prim.Native.Nat.{ℕ, suc, ◌+◌, ◌-◌, ◌≤◌, ◌<◌}
+use Prim.Native.Nat.{ℕ, zero, suc, ◌+◌, ◌-◌, ◌≤◌, ◌<◌}
 use native.Mathlib.Omega.{arith}
 use native.Mathlib.Numerals.{add-one}
 use mathlib.Core.Path.{◌≡◌, refl, sym, ap, ◌∙◌}
@@ -15,10 +15,12 @@ use Rattle.model.specs.Maps.{when◌then◌else◌, same_text}
 use Rattle.model.specs.Formats.{same, short_text, attendee_f}
 use Rattle.model.specs.Merge.{Verdict, verdict}
 use Rattle.model.proofs.FormatsLaws.{short_text_law}
-use Rattle.comparison.proofs.Laws.{same_nil, same_cons}
+use Rattle.comparison.proofs.Laws.{same_nil, same_cons, asked}
 use Rattle.frame.specs.Read.{skips, start, value_at, value_of}
 use Rattle.frame.specs.declared.Cursor.{Cursor}
 use Rattle.comparison.specs.Bytes.{same_folded, raw, span}
+use Rattle.comparison.specs.Which.{number_of, which_of}
+use Rattle.comparison.specs.declared.Which.{Which}
 use Rattle.attendees.specs.Entries.{entry_count, entry_at, entry_bytes, address_of, one_if, tally_of, occurrence_of, find_from, find_bytes, shown_address, head_of, reply_of, kind_of, same_rest, judge_whole, judge_removed, rest_refused, judge_standing, judge_own, judge_of, entry_value_items, side_bytes, entry_items, own_of, key_items, our_key_items, their_items, our_items, entries_items}
 use Rattle.attendees.specs.declared.judging.Judged.{Judged}
 
@@ -288,3 +290,23 @@ module _ (which : ℕ) (owner : Bool) (me base ours theirs : List ℕ) where
   pub entries_are : their_items which owner me base ours theirs (entry_count theirs) ++ our_items which owner me base ours theirs (entry_count ours) ≡ entries_items which owner me base ours theirs
   unfolding entries_items
   entries_are = refl
+
+-- the entries are asked for by the part of a number as by the number
+module _ (n : ℕ) (owner : Bool) (me base ours theirs : List ℕ) where
+  key_asked : (wanted : List ℕ) (i : ℕ) → key_items (number_of (which_of n)) owner me base ours theirs wanted i ≡ key_items n owner me base ours theirs wanted i
+  unfolding key_items entry_items
+  key_asked wanted i = asked n _ _ _
+
+  their_asked : (i : ℕ) → their_items (number_of (which_of n)) owner me base ours theirs i ≡ their_items n owner me base ours theirs i
+  unfolding their_items
+  their_asked zero = refl
+  their_asked (suc i) = rw (their_asked i, key_asked (address_of (entry_bytes theirs i)) (occurrence_of theirs i)) refl
+
+  our_asked : (i : ℕ) → our_items (number_of (which_of n)) owner me base ours theirs i ≡ our_items n owner me base ours theirs i
+  unfolding our_items our_key_items
+  our_asked zero = refl
+  our_asked (suc i) = rw (our_asked i, key_asked (address_of (entry_bytes ours i)) (occurrence_of ours i)) refl
+
+  pub entries_asked : (w : Which) → w ≡ which_of n → entries_items (number_of w) owner me base ours theirs ≡ entries_items n owner me base ours theirs
+  unfolding entries_items
+  entries_asked w e = rw (e, their_asked (entry_count theirs), our_asked (entry_count ours)) refl

@@ -116,15 +116,16 @@ fn our_entries<'a>(
 pub fn entries<'a>(
     sheet: Sheet,
     out: &mut [u8],
-    which: Which,
+    which: u8,
     owner: bool,
     me: &[u8],
     base: &'a [u8],
     ours: &'a [u8],
     theirs: &'a [u8],
 ) -> Sheet
-    ensures { Listed out.old out.new sheet.pen sheet.count result.pen result.count (entries_items (number_of which) owner me.now base.now ours.now theirs.now) }
+    ensures { Listed out.old out.new sheet.pen sheet.count result.pen result.count (entries_items which owner me.now base.now ours.now theirs.now) }
 {
-    let h = their_entries(sheet, out, which, owner, me, base, ours, theirs);
-    our_entries(h, out, which, owner, me, base, ours, theirs)
+    let asked = Which::of(which);
+    let h = their_entries(sheet, out, asked, owner, me, base, ours, theirs);
+    our_entries(h, out, asked, owner, me, base, ours, theirs)
 }

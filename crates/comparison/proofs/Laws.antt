@@ -18,6 +18,8 @@ use Rattle.model.specs.Maps.{when◌then◌else◌, by, by_name, same_text}
 use Rattle.model.specs.Formats.{same}
 use Rattle.model.specs.Merge.{Verdict, lower, to_ascii_lowercase, verdict}
 use Rattle.comparison.specs.Bytes.{same_folded, raw}
+use Rattle.comparison.specs.Which.{number_of, which_of}
+use Rattle.comparison.specs.declared.Which.TheVariants.{Merged, Conflicts, Refused}
 
 -- the model's comparison, byte by byte
 pub same_nil : same_text [] [] ≡ true
@@ -75,3 +77,15 @@ verdict_is b o t owned = grind (arith, nat_tests)
 pub verdict_raw : {A : Type 0} (f : Format A) (b o t : A) (owned : Bool) → verdict raw (f.enc b) (f.enc o) (f.enc t) owned ≡ verdict f b o t owned
 unfolding verdict same
 verdict_raw f b o t owned = refl
+
+-- what is chosen by the number of a number's part is what is chosen by the number itself
+pub asked : {A : Type 0} (n : ℕ) (merged conflicts refused : A)
+    → cond (eqb (number_of (which_of n)) 0) merged (cond (eqb (number_of (which_of n)) 1) conflicts refused) ≡ cond (eqb n 0) merged (cond (eqb n 1) conflicts refused)
+unfolding which_of
+asked n merged conflicts refused = go (eqb n 0) (eqb n 1)
+  where
+    go : (x y : Bool) → cond (eqb (number_of (cond x Merged (cond y Conflicts Refused))) 0) merged (cond (eqb (number_of (cond x Merged (cond y Conflicts Refused))) 1) conflicts refused)
+        ≡ cond x merged (cond y conflicts refused)
+    go true y = refl
+    go false true = refl
+    go false false = refl

@@ -5,6 +5,7 @@ ghost use Rattle.std.specs.Prelude.{◌≡◌};
 ghost use Rattle.model.specs.Maps.{same_text};
 ghost use Rattle.model.specs.Merge.{verdict};
 ghost use Rattle.comparison.specs.Bytes.{same_folded, meant_verdict, raw, span};
+ghost use Rattle.comparison.specs.Which.{number_of, which_of};
 
 // Whether two lists of bytes are equal, in the words of the model.
 #[tactic(auto, using(crate::proofs::Laws::equal_same))]
@@ -28,6 +29,31 @@ pub enum Which {
     Merged,
     Conflicts,
     Refused,
+}
+
+impl Which {
+    // The part that a number asks for: every number from 2 on asks for the refused.
+    #[tactic(auto, unfolding(crate::specs::Which::which_of))]
+    pub fn of(number: u8) -> Which
+        ensures { result ≡ which_of number }
+    {
+        match number {
+            0 => Which::Merged,
+            1 => Which::Conflicts,
+            _ => Which::Refused,
+        }
+    }
+
+    // The number that asks for it.
+    pub fn number(self) -> u8
+        ensures { result ≡ number_of self }
+    {
+        match self {
+            Which::Merged => 0,
+            Which::Conflicts => 1,
+            Which::Refused => 2,
+        }
+    }
 }
 
 #[derive(Clone, Copy, PartialEq, Eq)]

@@ -91,10 +91,11 @@ module _ (owner : Bool) (me base ours theirs b o t : List ℕ) (e : b ≡ unit_b
   unfolding report_items
   reports_are which = rw (attendees_are which)
 
-  pub fields_are : (n : ℕ) → flat (units_items 0 owner base ours theirs 0 4) ++ ((n ∷ []) ++ (flat (entries_items 0 owner me b o t) ++ flat (units_items 0 owner base ours theirs 5 6)))
+  pub fields_are : (which n : ℕ) → which ≡ 0
+      → flat (units_items which owner base ours theirs 0 4) ++ ((n ∷ []) ++ (flat (entries_items which owner me b o t) ++ flat (units_items which owner base ours theirs 5 6)))
       ≡ field_bytes n owner me base ours theirs
   unfolding field_bytes
-  fields_are n = rw (attendees_are 0)
+  fields_are which n h = rw (h, attendees_are 0)
 
 pub counted : {a b : List ℕ} {p q : Pen} {m : ℕ} {xs ys : List (List ℕ)} → Listed a b p 0 q m xs → xs ≡ ys → length ys ≤ 255 → m ≡ length ys
 counted L e h = L.count (rw e (omega arith)) ∙ rw e (omega arith)

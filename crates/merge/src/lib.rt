@@ -110,7 +110,7 @@ fn count_attendees<'a>(
     let h = attendees::entries(
         none,
         &mut nowhere,
-        Which::Merged,
+        Which::Merged.number(),
         owner,
         me,
         units::unit_part(base, 4),
@@ -133,10 +133,11 @@ fn merged_fields<'a>(
 ) -> Pen
     ensures { Wrote out.old out.new pen result (field_bytes n owner me.now base.now ours.now theirs.now) }
 {
+    let merged = Which::Merged.number();
     let h = units::units(
         Sheet { pen, count: 0 },
         out,
-        Which::Merged,
+        merged,
         0,
         4,
         base,
@@ -149,14 +150,14 @@ fn merged_fields<'a>(
     let i = attendees::entries(
         Sheet { pen: q, count: 0 },
         out,
-        Which::Merged,
+        merged,
         owner,
         me,
         units::unit_part(base, 4),
         units::unit_part(ours, 4),
         units::unit_part(theirs, 4),
     );
-    let j = units::units(i, out, Which::Merged, 5, 11, base, ours, theirs, owner);
+    let j = units::units(i, out, merged, 5, 11, base, ours, theirs, owner);
     j.pen
 }
 
@@ -173,18 +174,19 @@ fn reports<'a>(
 ) -> Sheet
     ensures { Listed out.old out.new sheet.pen sheet.count result.pen result.count (report_items (number_of which) owner me.now base.now ours.now theirs.now) }
 {
-    let h = units::units(sheet, out, which, 0, 4, base, ours, theirs, owner);
+    let number = which.number();
+    let h = units::units(sheet, out, number, 0, 4, base, ours, theirs, owner);
     let i = attendees::entries(
         h,
         out,
-        which,
+        number,
         owner,
         me,
         units::unit_part(base, 4),
         units::unit_part(ours, 4),
         units::unit_part(theirs, 4),
     );
-    units::units(i, out, which, 5, 11, base, ours, theirs, owner)
+    units::units(i, out, number, 5, 11, base, ours, theirs, owner)
 }
 
 // How many there are: the reports, written nowhere.

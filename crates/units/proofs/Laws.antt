@@ -14,6 +14,9 @@ use Rattle.frame.proofs.Chains.{skips_status, skips_transparency, skips_visibili
 use Rattle.frame.specs.Read.{skips, start}
 use Rattle.frame.specs.declared.Cursor.{Cursor}
 use Rattle.comparison.specs.Bytes.{is_conflict, is_refused, span}
+use Rattle.comparison.specs.Which.{number_of, which_of}
+use Rattle.comparison.specs.declared.Which.{Which}
+use Rattle.comparison.proofs.Laws.{asked}
 use Rattle.pens.specs.Writing.{Wrote, Listed}
 use Rattle.pens.specs.declared.Pen.{Pen}
 use Rattle.pens.proofs.Laws.{listed_one}
@@ -78,6 +81,11 @@ module _ {a b : List ℕ} {p q : Pen} {n m : ℕ} where
 
   pub refused_some : (v : Verdict) (k : ℕ) → is_refused v ≡ true → Wrote a b p q (k ∷ 0 ∷ []) → (n < 255 → m ≡ n + 1) → Listed a b p n q m (refused_items v k)
   refused_some v k e W h = rw e (listed_one n m W h)
+
+-- a unit's items are asked for by the part of a number as by the number
+pub unit_asked : (n : ℕ) (w : Which) → w ≡ which_of n → (k : ℕ) (b o t : List ℕ) (owned : Bool) → unit_items (number_of w) k b o t owned ≡ unit_items n k b o t owned
+unfolding unit_items
+unit_asked n w e k b o t owned = rw e (asked n _ _ _)
 
 -- the loop over the units
 

@@ -160,7 +160,7 @@ fn unit_refused(sheet: Sheet, out: &mut [u8], v: Verdict, k: u8) -> Sheet
 pub fn units(
     sheet: Sheet,
     out: &mut [u8],
-    which: Which,
+    which: u8,
     from: u8,
     to: u8,
     base: &[u8],
@@ -168,8 +168,9 @@ pub fn units(
     theirs: &[u8],
     owner: bool,
 ) -> Sheet
-    ensures { Listed out.old out.new sheet.pen sheet.count result.pen result.count (units_items (number_of which) owner base.now ours.now theirs.now from (to - from)) }
+    ensures { Listed out.old out.new sheet.pen sheet.count result.pen result.count (units_items which owner base.now ours.now theirs.now from (to - from)) }
 {
+    let asked = Which::of(which);
     let mut b = unit_at(base, from);
     let mut o = unit_at(ours, from);
     let mut t = unit_at(theirs, from);
@@ -184,7 +185,7 @@ pub fn units(
         h = unit(
             h,
             out,
-            which,
+            asked,
             k,
             comparison::part(base, b.at, b_end.at),
             comparison::part(ours, o.at, o_end.at),
