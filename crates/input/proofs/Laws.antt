@@ -12,10 +12,9 @@ use lib.Dec.{ltb}
 use borrow.Author.Tests.{lt-ltb, le-ltb, ltb-false}
 use Rattle.lines.specs.Lines.{line_length}
 use Rattle.input.specs.Input.{Taken, taken, is_empty, next_line, Reached, Splits}
-use Rattle.input.specs.Ready.{between, left_of, kept_of, is_whole, Fits, Takes, Reads, Hands}
+use Rattle.input.specs.Ready.{Takes, Reads, Hands, between, left_of}
+use Rattle.input.specs.declared.chunks.Input.{Input}
 use Rattle.input.specs.declared.source.Lines.{Lines}
-use Rattle.input.specs.declared.Part.{Part}
-use Rattle.input.specs.declared.Part.TheVariants.{Whole, Open, Ended}
 
 -- ---- a step in what is left of a chunk
 
@@ -38,35 +37,38 @@ take_short (suc n) (b ∷ s) = let h = take_short n s in omega arith
 zero_plus : (n : ℕ) → 0 + n ≡ n
 zero_plus n = omega arith
 
-module _ (before after : Lines) (line line' : List ℕ) (have kept stop : ℕ) (same : after.chunk ≡ before.chunk) (to : after.end ≡ before.end) (going : after.ended ≡ before.ended)
-    (s : stop ≡ 0 + line_length (drop 0 (left_of before))) (k : kept ≤ length line') (l : take kept line' ≡ take (length line) (take have line ++ take stop (left_of before))) where
-  stop_is : stop ≡ line_length (left_of before)
-  stop_is = s ∙ zero_plus (line_length (left_of before))
+module _ (chunk line line' : List ℕ) (at end have kept stop : ℕ) (a : at ≤ end) (within : end ≤ length chunk)
+    (s : stop ≡ 0 + line_length (drop 0 (between at end chunk))) (k : kept ≤ length line)
+    (l : take kept line' ≡ take (length line) (take have line ++ take stop (between at end chunk))) where
+  stop_is : stop ≡ line_length (between at end chunk)
+  stop_is = s ∙ zero_plus (line_length (between at end chunk))
 
-  left_long : length (left_of before) ≡ before.end - before.at
-  left_long = length-take-le (before.end - before.at) (drop before.at before.chunk) (let d = length-drop before.at before.chunk in omega (arith, before.in_order, before.within))
+  left_long : length (between at end chunk) ≡ end - at
+  left_long = length-take-le (end - at) (drop at chunk) (let d = length-drop at chunk in omega arith)
 
-  left_is : left_of after ≡ between after.at before.end before.chunk
-  left_is = rw (same, to)
+  pub takes_on : stop ≡ length (between at end chunk) → Takes chunk line line' at end have (record { at = end; end = end; have = kept; whole = false; ended = false })
+  takes_on e =
+      let none : end - end ≡ 0 = omega arith in
+      let w : false ≡ ltb stop (length (between at end chunk)) = sym (le-ltb stop (length (between at end chunk)) (omega arith)) in
+      let r : between end end chunk ≡ drop (suc stop) (between at end chunk) = ap (λ (n : ℕ). take n (drop end chunk)) none ∙ sym (drop_of_length-le (between at end chunk) {i = suc stop} (omega arith)) in
+      record {
+        ready = record { left = omega arith; within = within; kept = k };
+        going = refl;
+        is = taken_by (length line) (take have line) (between at end chunk) (take kept line') (between end end chunk) false stop stop_is l w r;
+      }
 
-  pub takes_on : after.at ≡ before.end → stop ≡ length (left_of before) → Takes before after line line' have (Open kept)
-  takes_on at e =
-      let none : before.end - before.end ≡ 0 = omega arith in
-      let w : false ≡ ltb stop (length (left_of before)) = sym (le-ltb stop (length (left_of before)) (omega arith)) in
-      let r : left_of after ≡ drop (suc stop) (left_of before) =
-      left_is ∙ ap (λ (n : ℕ). between n before.end before.chunk) at ∙ ap (λ (n : ℕ). take n (drop before.end before.chunk)) none
-      ∙ sym (drop_of_length-le (left_of before) {i = suc stop} (omega arith)) in
-      record { within = k; there = λ e. cc; going = going; is = taken_by (length line) (take have line) (left_of before) (take kept line') (left_of after) false stop stop_is l w r }
-
-  pub takes_whole : after.at ≡ before.at + (stop + 1) → stop < length (left_of before) → Takes before after line line' have (Whole kept)
-  takes_whole at h =
+  pub takes_whole : stop < length (between at end chunk) → Takes chunk line line' at end have (record { at = at + stop + 1; end = end; have = kept; whole = true; ended = false })
+  takes_whole h =
       let m = left_long in
-      let n : before.end - (before.at + (stop + 1)) ≡ before.end - before.at - suc stop = omega arith in
-      let o : before.at + (stop + 1) ≡ before.at + suc stop = omega arith in
-      let r : left_of after ≡ drop (suc stop) (left_of before) =
-      left_is ∙ ap (λ (n : ℕ). between n before.end before.chunk) at ∙ ap₂ (λ (x y : ℕ). take x (drop y before.chunk)) n o
-      ∙ ap (take (before.end - before.at - suc stop)) (sym (drop-drop (suc stop) before.at before.chunk)) ∙ sym (drop_take (suc stop) (before.end - before.at) (drop before.at before.chunk)) in
-      record { within = k; there = λ e. cc; going = going; is = taken_by (length line) (take have line) (left_of before) (take kept line') (left_of after) true stop stop_is l (sym (lt-ltb stop (length (left_of before)) h)) r }
+      let n : end - (at + stop + 1) ≡ end - at - suc stop = omega arith in
+      let o : at + stop + 1 ≡ at + suc stop = omega arith in
+      let r : between (at + stop + 1) end chunk ≡ drop (suc stop) (between at end chunk) =
+      ap₂ (λ (x y : ℕ). take x (drop y chunk)) n o ∙ ap (take (end - at - suc stop)) (sym (drop-drop (suc stop) at chunk)) ∙ sym (drop_take (suc stop) (end - at) (drop at chunk)) in
+      record {
+        ready = record { left = omega arith; within = within; kept = k };
+        going = refl;
+        is = taken_by (length line) (take have line) (between at end chunk) (take kept line') (between (at + stop + 1) end chunk) true stop stop_is l (sym (lt-ltb stop (length (between at end chunk)) h)) r;
+      }
 
 -- ---- steps of a call
 
@@ -140,24 +142,19 @@ splits_taken {limit = limit} {kept = kept} {left = left} {line = line} {left' = 
 
 -- ---- what the functions promise
 
-fits_taken : (r : Part) (ended : Bool) → ((r ≡ Ended) → ⊥) → ended ≡ false → Fits r ended
-fits_taken (Whole n) ended n' e = tt
-fits_taken (Open n) ended n' e = e
-fits_taken Ended ended n e = absurd (n refl)
-
-pub reads_taken : {before after : Lines} {line line' : List ℕ} {have : ℕ} {r : Part} → before.ended ≡ false → length line' ≡ length line → Takes before after line line' have r
-    → Reads (take have line) (left_of before) after line' r
-reads_taken {after = after} {r = r} d e T =
-    let g : after.ended ≡ false = T.going ∙ d in
-    record { within = T.within; fits = fits_taken r after.ended T.there g; splits = rw (e, g) (splits_taken (is_whole r) T.is) }
+pub reads_taken : {chunk line line' : List ℕ} {at end have : ℕ} {r : Input} → length line' ≡ length line → Takes chunk line line' at end have r → Reads (take have line) (between at end chunk) chunk line' r
+reads_taken {chunk = chunk} {line = line} {line' = line'} {at = at} {end = end} {have = have} {r = r} e T = record {
+  ready = record { left = T.ready.left; within = T.ready.within; kept = rw e T.ready.kept };
+  splits = rw (e, T.going) (splits_taken r.whole T.is);
+}
 
 -- nothing was left, and a chunk was read
-pub reads_more : (before after : Lines) (line line' left : List ℕ) (have : ℕ) (r : Part) → before.end ≤ before.at → have ≤ length line → length line' ≡ length line
-    → Reads (take have line) left after line' r → Reads (take have line) (left_of before) after line' r
-reads_more before after line line' left have r h k s R =
-    let e : before.end - before.at ≡ 0 = omega arith in
+pub reads_more : (chunk line : List ℕ) (at end have : ℕ) {left chunk' line' : List ℕ} {r : Input} → end ≤ at → have ≤ length line → length line' ≡ length line
+    → Reads (take have line) left chunk' line' r → Reads (take have line) (between at end chunk) chunk' line' r
+reads_more chunk line at end have {r = r} h k s R =
+    let e : end - at ≡ 0 = omega arith in
     let l = length-take-le have line k in
-    record { within = R.within; fits = R.fits; splits = rw e (splits_read (is_whole r) after.ended (omega arith) R.splits) }
+    record { ready = R.ready; splits = rw e (splits_read r.whole r.ended (omega arith) R.splits) }
 
 not_empty : (n : ℕ) (s : List ℕ) → n ≤ length s → ltb 0 n ≡ not (is_empty (take n s))
 not_empty zero s h = refl
@@ -165,40 +162,36 @@ not_empty (suc n) [] h = absurd (omega arith)
 not_empty (suc n) (b ∷ s) h = lt-ltb 0 (suc n) (omega arith)
 
 -- nothing was left, and the input ends
-module _ (before after : Lines) (line : List ℕ) (have : ℕ) (h : before.end ≤ before.at) (k : have ≤ length line) (d : after.ended ≡ true) where
-  ends : (whole : Bool) → whole ≡ ltb 0 have → Splits (length line) (take have line) (left_of before) whole after.ended (take have line) (left_of after)
-  unfolding next_line
-  ends whole w =
-      let e : before.end - before.at ≡ 0 = omega arith in
-      let l = length-take-le have line k in
-      record { chunks = []; is = rw (d, e, w, not_empty have line k) (nothing_left (length line) (take have line) [] (omega arith)) }
+pub reads_end : (chunk chunk' line : List ℕ) (at end have : ℕ) (whole : Bool) → end ≤ at → have ≤ length line → whole ≡ ltb 0 have
+    → Reads (take have line) (between at end chunk) chunk' line (record { at = 0; end = 0; have = have; whole = whole; ended = true })
+unfolding next_line
+reads_end chunk chunk' line at end have whole h k w =
+    let e : end - at ≡ 0 = omega arith in
+    let l = length-take-le have line k in
+    record {
+      ready = record { left = omega arith; within = omega arith; kept = k };
+      splits = record { chunks = []; is = rw (e, w, not_empty have line k) (nothing_left (length line) (take have line) [] (omega arith)) };
+    }
 
-  pub reads_last : 0 < have → Reads (take have line) (left_of before) after line (Whole have)
-  reads_last n = record { within = k; fits = tt; splits = ends true (sym (lt-ltb 0 have n)) }
+pub reads_start : (chunk line : List ℕ) (at end : ℕ) → at ≤ end → end ≤ length chunk → Reads [] (between at end chunk) chunk line (record { at = at; end = end; have = 0; whole = false; ended = false })
+reads_start chunk line at end h k = record { ready = record { left = h; within = k; kept = omega arith }; splits = splits_start (length line) (between at end chunk) }
 
-  pub reads_end : have ≤ 0 → Reads (take have line) (left_of before) after line Ended
-  reads_end n =
-      let z : have ≡ 0 = omega arith in
-      record { within = omega arith; fits = d; splits = rw z (rw z at (ends false (sym (le-ltb 0 have n)))) }
-
-pub reads_start : (now : Lines) (line : List ℕ) → now.ended ≡ false → Reads [] (left_of now) now line (Open 0)
-reads_start now line d = record { within = omega arith; fits = d; splits = rw d (splits_start (length line) (left_of now)) }
-
-pub reads_then : {left line line' : List ℕ} {mid after : Lines} {have : ℕ} {r : Part} → length line' ≡ length line → Reads [] left mid line (Open have) → Reads (take have line) (left_of mid) after line' r
-    → Reads [] left after line' r
-reads_then {after = after} {r = r} e P R = record { within = R.within; fits = R.fits; splits = splits_then (is_whole r) after.ended (rw (← e, P.fits) at P.splits) R.splits }
+pub reads_then : {left chunk line chunk' line' : List ℕ} (p : Input) {r : Input} → length line' ≡ length line → p.whole ≡ false → p.ended ≡ false → Reads [] left chunk line p
+    → Reads (take p.have line) (between p.at p.end chunk) chunk' line' r → Reads [] left chunk' line' r
+reads_then {left = left} {chunk = chunk} {line = line} p {r = r} e w d P R = record {
+  ready = R.ready;
+  splits = splits_then r.whole r.ended (rw (← e, w, d) at P.splits) R.splits;
+}
 
 -- ---- what a call hands out
 
 pub hands_over : (before : Lines) (line : List ℕ) → before.ended ≡ true → Hands before before line None
-hands_over before line d = record { line = []; is = tt; over = λ e. refl; splits = λ e. absurd (true≢false (sym d ∙ e)) }
+hands_over before line d = record { line = []; is = tt; over = λ e. (refl, refl); splits = λ e. absurd (true≢false (sym d ∙ e)) }
 
-module _ {before after : Lines} {line' : List ℕ} (d : before.ended ≡ false) where
-  pub hands_line : {kept : ℕ} → Reads [] (left_of before) after line' (Whole kept) → Hands before after line' (Some kept)
-  hands_line {kept = kept} R = record { line = take kept line'; is = (R.within, refl); over = λ e. absurd (true≢false (sym e ∙ d)); splits = λ e. R.splits }
+-- what is read of the chunk that is held, and what is left of it
+module _ {before after : Lines} {chunk' line' : List ℕ} {p : Input} (d : before.ended ≡ false) (R : Reads [] (left_of before) chunk' line' p) (a : left_of after ≡ between p.at p.end chunk') (e : after.ended ≡ p.ended) where
+  pub hands_line : p.whole ≡ true → Hands before after line' (Some p.have)
+  hands_line w = record { line = take p.have line'; is = (R.ready.kept, refl); over = λ t. absurd (true≢false (sym t ∙ d)); splits = λ _. rw (a, e, ← w) R.splits }
 
-  pub hands_end : Reads [] (left_of before) after line' Ended → Hands before after line' None
-  hands_end R = record { line = []; is = tt; over = λ e. refl; splits = λ e. R.splits }
-
-  pub hands_none : {kept : ℕ} → Reads [] (left_of before) after line' (Open kept) → Hands before after line' None
-  hands_none {kept = kept} R = record { line = take kept line'; is = tt; over = λ e. refl; splits = λ e. R.splits }
+  pub hands_none : p.whole ≡ false → Hands before after line' None
+  hands_none w = record { line = take p.have line'; is = tt; over = λ t. absurd (true≢false (sym t ∙ d)); splits = λ _. rw (a, e, ← w) R.splits }

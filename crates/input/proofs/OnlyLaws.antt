@@ -8,9 +8,10 @@ use mathlib.Core.List.{List, [], ◌∷◌, ◌++◌, map, flatten}
 use lib.ListN.{length, take}
 use lib.Seq.{take-nil}
 use lib.Dec.{eqb}
-use Rattle.input.specs.Input.{led, lines_of, Handed, is_empty, next_line, Splits}
-use Rattle.input.specs.Ready.{left_of, Hands as Handing}
-use Rattle.input.specs.Only.{only, OnlyRead}
+use Rattle.input.specs.Input.{led, lines_of, Handed, is_empty, next_line, Reached, Splits}
+use Rattle.input.specs.Ready.{Reads, between, left_of, Hands as Handing}
+use Rattle.input.specs.Only.{only, OnlyRead, OnlyHeld}
+use Rattle.input.specs.declared.chunks.Input.{Input}
 use Rattle.input.specs.declared.source.Lines.{Lines}
 use Rattle.input.proofs.Theorems.{first_line, first_then, Hands, call}
 
@@ -66,6 +67,39 @@ many limit s = go (lines_of (s ++ 10 ∷ 10 ∷ [])) (two s)
     go (l ∷ []) t = absurd t
     go (l ∷ k ∷ ls) t = refl
 
+-- ---- what is returned of a chunk that is lent
+
+pub read_none : (left line' : List ℕ) (n : ℕ) → n ≤ length line' → OnlyHeld left line' (record { one = false; have = n })
+read_none left line' n h = record { fits = h; more = 10 ∷ 10 ∷ []; is = many (length line') left }
+
+module _ {left chunk' line' : List ℕ} (p : Input) (R : Reads [] left chunk' line' p) (some-room : 1 ≤ length line') (w : p.whole ≡ true) where
+  -- the input has ended behind the line
+  pub read_last : p.ended ≡ true → OnlyHeld left line' (record { one = true; have = p.have })
+  unfolding flatten
+  read_last d = record {
+    fits = R.ready.kept;
+    more = flatten R.splits.chunks;
+    is = one_line (length line') some-room (left ∷ R.splits.chunks) (rw (w, d) at R.splits.is) refl;
+  }
+
+  -- another call has come to no line
+  pub read_then : {chunk'' more : List ℕ} (q : Input) → p.ended ≡ false → Reads [] (between p.at p.end chunk') chunk'' more q → 1 ≤ length more → q.whole ≡ false → OnlyHeld left line' (record { one = q.ended; have = p.have })
+  unfolding flatten
+  read_then {more = more} q d Q room v = go q.ended _ _ (rw v at Q.splits.is)
+    where
+      after : List ℕ
+      after = between p.at p.end chunk'
+
+      go : (ended : Bool) (line left'' : List ℕ) → Reached false ended (length more) [] (after ∷ Q.splits.chunks) line left'' → OnlyHeld left line' (record { one = ended; have = p.have })
+      go false line left'' r = read_none left line' p.have R.ready.kept
+      go true line left'' r = record {
+        fits = R.ready.kept;
+        more = flatten (R.splits.chunks ++ Q.splits.chunks);
+        is = one_line (length line') some-room ((left ∷ R.splits.chunks) ++ Q.splits.chunks) ((rw (w, d) at R.splits.is) Q.splits.chunks) (no_line (length more) room (after ∷ Q.splits.chunks) r);
+      }
+
+-- ---- what is returned of standard input
+
 pub only_none : (left line' : List ℕ) → OnlyRead left line' None
 only_none left line' = record { within = tt; more = 10 ∷ 10 ∷ []; is = many (length line') left }
 
@@ -88,4 +122,4 @@ module _ {before mid after : Lines} {line' more : List ℕ} {have : ℕ} (H : Ha
       }
 
   pub only_one : OnlyRead (left_of before) line' (Some have)
-  only_one = elim before.ended as (λ b. before.ended ≡ b → OnlyRead (left_of before) line' (Some have)) [ true ↦ λ e. cc (H.over e) | false ↦ λ e. told (H.splits e) mid.ended refl ] refl
+  only_one = elim before.ended as (λ b. before.ended ≡ b → OnlyRead (left_of before) line' (Some have)) [ true ↦ λ e. cc (H.over e).0 | false ↦ λ e. told (H.splits e) mid.ended refl ] refl

@@ -1,10 +1,10 @@
 -- Line after line: what is held is that after the lines that were handed out. Assumes nothing.
-use Rattle.std.specs.Prelude.{Some, None, length, take}
+use Rattle.std.specs.Prelude.{Some, length, take}
 use Rattle.std.proofs.lemmas.Bool.{true≢false}
 use Prim.Native.Nat.{ℕ, zero, suc, ◌+◌}
 use native.Mathlib.Omega.{arith}
 use mathlib.Core.Path.{◌≡◌, refl, sym, ap, ap₂, ◌∙◌}
-use mathlib.Core.Bool.{Bool, true, false, not}
+use mathlib.Core.Bool.{Bool, true, false}
 use mathlib.Core.List.{List, [], ◌∷◌, ◌++◌, append-nil, append_assoc}
 use Rattle.input.specs.Input.{next_line, handed_out, Splits}
 use Rattle.input.specs.Served.{after_lines, Served}
@@ -90,7 +90,7 @@ serves_end {after_line = after_line} {limit = limit} {held₀ = held₀} {held =
 pub serves_line : {after_line : List ℕ → List ℕ → List ℕ} (limit : ℕ) (held₀ held held' line : List ℕ) (before after : Lines) (have : ℕ) → Serves after_line limit held₀ held before → limit ≡ length line
     → Hands before after line (Some have) → held' ≡ after_line held (take have line) → Serves after_line limit held₀ held' after
 serves_line {after_line = after_line} limit held₀ held held' line before after have S k H e =
-    elim before.ended as (λ b. before.ended ≡ b → Serves after_line limit held₀ held' after) [ true ↦ λ d. cc (H.over d) | false ↦ λ d. go (H.splits d) (S.going d) after.ended refl ] refl
+    elim before.ended as (λ b. before.ended ≡ b → Serves after_line limit held₀ held' after) [ true ↦ λ d. cc (H.over d).0 | false ↦ λ d. go (H.splits d) (S.going d) after.ended refl ] refl
   where
     held_so : held' ≡ after_line held H.line
     held_so = e ∙ ap (after_line held) (sym H.is.1)

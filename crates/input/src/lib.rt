@@ -1,32 +1,19 @@
 // The lines of standard input, answered one by one: each is answered before more is read. Input is read in chunks, and a line may lie in several.
 #![tactic(auto)]
 
+mod chunks;
 mod source;
 
 ghost use Rattle.std.specs.Prelude.{◌≡◌, [], ◌≤◌, false, List, ℕ, length, take};
-ghost use Rattle.input.specs.Ready.{left_of, Takes, Reads, Hands};
+ghost use Rattle.input.specs.Ready.{left_of, Hands};
 ghost use Rattle.input.specs.Only.{OnlyRead};
 ghost use Rattle.input.specs.Served.{Served};
 ghost use Rattle.lines.specs.Lines.{max_digits};
 
+pub use chunks::{Input, Only, only_line, read_line, take_part};
 use lines::LINE;
 pub use source::Lines;
-use std::io::{Read, Stdin};
-
-// How many bytes are kept of a line that is whole, or of one that goes on; or there is none.
-#[derive(Clone, Copy)]
-enum Part {
-    Whole(usize),
-    Open(usize),
-    Ended,
-}
-
-// Reads once, and says how many bytes came: 0 where the input has ended, and where it cannot be read.
-fn read_some(mut stdin: Stdin, chunk: &mut [u8]) -> usize
-    ensures { result ≤ length chunk.new }
-{
-    stdin.read(chunk).unwrap_or(0)
-}
+use std::io::Stdin;
 
 impl Lines {
     pub fn new(stdin: Stdin) -> Lines
@@ -41,61 +28,21 @@ impl Lines {
         }
     }
 
-    // Goes on with a line of which `have` bytes are kept, in what is left of the chunk.
-    fn take_part(&mut self, line: &mut [u8], have: usize) -> Part
-        requires { have ≤ length line.old }
-        ensures { Takes self.old self.new line.old line.new have result }
-    {
-        let left = &self.chunk[self.at..self.end];
-        let stop = lines::line_end(left, 0);
-        let kept = lines::keep(line, have, &left[..stop]);
-        if stop == left.len() {
-            self.at = self.end;
-            return Part::Open(kept);
-        }
-        self.at += stop + 1;
-        Part::Whole(kept)
-    }
-
-    // Goes on with a line, after a read where nothing is left of the chunk. The last line may lack its line feed.
-    #[tactic(auto, using(crate::proofs::Laws::reads_taken))]
-    fn read_part(&mut self, line: &mut [u8], have: usize) -> Part
-        requires { (have ≤ length line.old) × (self.old.ended ≡ false) }
-        ensures { Reads (take have line.old) (left_of self.old) self.new line.new result }
-    {
-        if self.at < self.end {
-            return self.take_part(line, have);
-        }
-        let n = read_some(self.stdin, &mut self.chunk);
-        self.at = 0;
-        self.end = n;
-        if n == 0 {
-            self.ended = true;
-            return match have {
-                0 => Part::Ended,
-                _ => Part::Whole(have),
-            };
-        }
-        self.take_part(line, have)
-    }
-
-    // Reads the next line, and says how many bytes of it are kept. Nothing says that it ends, so the turns are counted, up to a number that no run reaches.
-    #[tactic(auto, using(crate::proofs::Laws::reads_then, crate::proofs::Laws::hands_line, crate::proofs::Laws::hands_end, crate::proofs::Laws::hands_none))]
+    // Reads the next line, and says how many bytes of it are kept.
     pub fn next(&mut self, line: &mut [u8]) -> Option<usize>
         ensures { Hands self.old self.new line.new result }
     {
         if self.ended {
             return None;
         }
-        let mut have = 0;
-        for _ in 0..u64::MAX {
-            match self.read_part(line, have) {
-                Part::Whole(kept) => return Some(kept),
-                Part::Open(kept) => have = kept,
-                Part::Ended => return None,
-            }
+        let p = chunks::read_line(self.stdin, &mut self.chunk, line, self.at, self.end);
+        self.at = p.at;
+        self.end = p.end;
+        self.ended = p.ended;
+        if !p.whole {
+            return None;
         }
-        None
+        Some(p.have)
     }
 
     // Reads the one line of what is left and of standard input, if there is just one. Of a second line no more is kept than tells that there is one.

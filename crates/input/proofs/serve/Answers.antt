@@ -1,5 +1,5 @@
-use Rattle.std.proofs.Common.{refl, sym, rules}
-use Rattle.input.proofs.Serving.{serves_start, serves_end, serves_line}
+use Rattle.std.proofs.Common.{rules}
+use Rattle.input.proofs.Serving.{serves_end, serves_line}
 use Rattle.input.proofs.serve.Goals as goal
 
 pub returns-then-not-answer : goal.returns-then-not-answer
