@@ -1,11 +1,20 @@
 // Edits that come too late.
 ghost use Rattle.std.specs.Prelude.{◌≡◌};
 ghost use Rattle.std.specs.Int.Signed.{le_z};
+ghost use Rattle.std.specs.Int.{w64};
+ghost use Rattle.std.proofs.Common.{of_z};
 ghost use Rattle.model.specs.Maps.{is_some_and};
 ghost use Rattle.frame.specs.Meaning.{meant_expiry};
 ghost use Rattle.state.specs.Contract.{HasState, Reads};
 
 use frame::Expiry;
+
+// The two's complement bits of a time.
+pub fn bits_of(time: i64) -> u64
+    ensures { result ≡ of_z w64 time }
+{
+    time.cast_unsigned()
+}
 
 // Whether an edit with this expiry is due at a time.
 pub fn is_due(expiry: Expiry, now: i64) -> bool

@@ -12,7 +12,7 @@ mod writing;
 
 pub use coalescing::Folded;
 pub use enqueuing::enqueue;
-pub use expiry::{expired, is_due};
+pub use expiry::{bits_of, expired, is_due};
 pub use head::{finish, request_create, start_edit};
 pub use reading::{looks_up, read_for_edit};
 pub use telling::{Ending, notify};

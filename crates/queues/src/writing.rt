@@ -6,6 +6,7 @@ ghost use Rattle.frame.specs.Meaning.{text_in, meant_role, meant_expiry, meant_o
 ghost use Rattle.effects.specs.Sent.{pen};
 ghost use Rattle.queues.specs.Parts.{Filled};
 
+use crate::expiry::bits_of;
 use crate::places::{event_at, fields_at};
 use frame::{Expiry, Operation, Role, TextPart};
 use pens::Pen;
@@ -52,7 +53,7 @@ pub fn put_expiry(buf: &mut [u8], expiry: Expiry) -> usize
             return end.at;
         }
         Expiry::At(at) => {
-            let end = start().byte(buf, 1).number(buf, at.cast_unsigned());
+            let end = start().byte(buf, 1).number(buf, bits_of(at));
             return end.at;
         }
     }
