@@ -111,6 +111,20 @@ module _ (w : List ℕ) (i : ℕ) (names : List (List ℕ)) (a : Asked) (l : i <
       no_refresh (asked.EditWrite b) f = refl
       no_refresh (asked.Refresh b) f = absurd (f b refl)
 
+  -- what a turn leaves, by what the entry is for
+  pub noted_turn : (after : List (List ℕ)) → ((b : Name) → a ≡ asked.Refresh b → after ≡ names ++ (b.bytes ∷ [])) → (((b : Name) → a ≡ asked.Refresh b → ⊥) → after ≡ names) → Noted (i + 1) w after
+  noted_turn after added kept = go a refl
+    where
+      other : ((b : Name) → a ≡ asked.Refresh b → ⊥) → Noted (i + 1) w after
+      other f = rw (kept f) (noted_none f)
+
+      go : (x : Asked) → a ≡ x → Noted (i + 1) w after
+      go asked.List e = other (λ b f. cc)
+      go (asked.PassRead _) e = other (λ b f. cc)
+      go (asked.EditRead _) e = other (λ b f. cc)
+      go (asked.EditWrite _) e = other (λ b f. cc)
+      go (asked.Refresh b) e = rw (added b e) (noted_one b e)
+
 pub count : (w : List ℕ) (n : ℕ) → HasState w → Reads (λ s. length s.in_flight) w n → (n ≡ get_or w 55643 0) × (n ≤ 24) × (length w ≡ state_length)
 unfolding document01
 count w n K R =
