@@ -1,7 +1,7 @@
 // The program of docs/FRAMES.md, "The program's lines", over standard input and output: each line is answered before more is read.
 #![tactic(auto)]
 
-ghost use Rattle.std.specs.Prelude.{length};
+ghost use Rattle.std.specs.Prelude.{◌≡◌, length};
 ghost use Rattle.serve.specs.Serves.{Replies, Replied};
 
 use input::Answers;
@@ -27,7 +27,8 @@ struct Desk {
 impl Desk {
     // Answers a line: the state goes on, and the answer stands at the start of the text.
     fn reply(&mut self, line: &[u8]) -> usize
-        ensures { Replies self.old.look line.now self.old.state self.new.state self.new.text result }
+        ensures is { Replies self.old.look line.now self.old.state self.new.state self.new.text result }
+        ensures wish { self.new.look ≡ self.old.look }
     {
         let r = program::answer_line(
             &mut self.state,
@@ -46,7 +47,8 @@ impl Desk {
 
     // Answers a line, and writes the answer. False where it cannot be written.
     fn write_reply(&mut self, line: &[u8]) -> bool
-        ensures { Replied self.old.look line.now self.old.state self.new.state self.new.text }
+        ensures is { Replied self.old.look line.now self.old.state self.new.state self.new.text }
+        ensures wish { self.new.look ≡ self.old.look }
     {
         let n = self.reply(line);
         let text: &[u8] = &self.text;

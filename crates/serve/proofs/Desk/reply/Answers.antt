@@ -8,8 +8,8 @@ use Rattle.serve.specs.Serves.{text_bytes}
 use Rattle.serve.proofs.Laws.{look_room, replies_alone, replies_look, text_bytes_are}
 use Rattle.serve.proofs.Desk.reply.Goals as goal
 
-pub returns-then-not-self : goal.returns-then-not-self
-returns-then-not-self c = replies_alone c.answer_line-r.ensures _ (ap not c.if-not-self.true)
+pub returns-then-not-self-clause-is : goal.returns-then-not-self-clause-is
+returns-then-not-self-clause-is c = replies_alone c.answer_line-r.ensures _ (ap not c.if-not-self.true)
 
 pub put_look-requires : goal.put_look-requires
 put_look-requires c =
@@ -18,8 +18,8 @@ put_look-requires c =
     let h : text_bytes ≤ length c.answer_line-r.new.text = rw (text_bytes_are, l) (lit≤ tt) in
     look_room c.answer_line-r.ensures o h
 
-pub returns : goal.returns
-returns c =
+pub returns-clause-is : goal.returns-clause-is
+returns-clause-is c =
     let o : length c.answer_line-r.new.out ≡ 32768 = search rules in
     let l : length c.answer_line-r.new.text ≡ 117478 = search rules in
     let h : text_bytes ≤ length c.answer_line-r.new.text = rw (text_bytes_are, l) (lit≤ tt) in
