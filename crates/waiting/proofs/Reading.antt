@@ -63,9 +63,9 @@ entry_not : {r : ResourceId} {j : ℕ} {w : List ℕ} {s : SyncState} → Keeps 
 unfolding EntryIs
 entry_not {s = s} h F = F.is s h
 
-pub byte_missing : (r : ResourceId) (w : List ℕ) (j o : ℕ) (v : Option ℕ) → FindsEntry r j w None → v ≡ None → Reads (λ s. entry_byte r o (nth j (queue r s))) w v
+pub byte_missing : (r : ResourceId) (w : List ℕ) (j o : ℕ) → FindsEntry r j w None → Reads (λ s. entry_byte r o (nth j (queue r s))) w None
 unfolding entry_byte
-byte_missing r w j o v F e = record { is = λ s h. e ∙ sym (ap (entry_byte r o) (entry_not h F)) }
+byte_missing r w j o F = record { is = λ s h. sym (ap (entry_byte r o) (entry_not h F)) }
 
 pub byte_there : (r : ResourceId) (w : List ℕ) (j o p v : ℕ) → FindsEntry r j w (Some p) → o < 5940 → v ≡ get_or w (p + o) 0 → Reads (λ s. entry_byte r o (nth j (queue r s))) w (Some v)
 unfolding entry_byte

@@ -27,7 +27,9 @@ fn entry_byte(work: &[u8], name: Name, j: usize, o: usize) -> Option<u8>
     requires named { (Named name.bytes) × (o < 5940) }
     ensures { Reads (λ s. entry_byte (name_of name.bytes) o (nth j (queue (name_of name.bytes) s))) work.now result }
 {
-    let at = find_entry(work, name, j)?;
+    let Some(at) = find_entry(work, name, j) else {
+        return None;
+    };
     Some(work[at + o])
 }
 
